@@ -1,0 +1,12 @@
+//! The statements and expressions of a pipeline text, as the grammar reads them. Parentheses,
+//! comments and the letters of keywords are gone.
+#![tactic(auto)]
+
+mod expr;
+mod statement;
+
+pub use expr::{SqlArm, SqlArms, SqlExpr, SqlExprs, SqlOp, SqlType};
+pub use statement::{
+    CdcTree, OptionValue, Out, Outs, Select, SqlAction, SqlItem, SqlItems, SqlOption, SqlOptions,
+    SqlOrigin, SqlSequence, SqlSome, Statement, Statements,
+};
