@@ -3,11 +3,11 @@ use Rattle.std.proofs.Common.{◌≡◌, ℕ, zero, suc, ◌+◌, ◌-◌, ◌<�
 use Rattle.std.specs.Cmp.{Equal-is}
 use Rattle.std.proofs.lemmas.List.Sums.{sum_by-append}
 use Rattle.value_core.specs.declared.change.Change.{Change}
-use Rattle.value_core.specs.Bags.{count_of, SameBag, in_row_order, without, surplus, net_change, changed, IsInOrder}
-use Rattle.value_core.specs.Changes.{IsApart, IsChange, Holds}
+use Rattle.value_core.specs.Bags.{count_of, in_row_order, without, surplus, net_change, changed}
+use Rattle.value_core.specs.Changes.{IsChange, Holds}
 use Rattle.value_core.specs.Order.{Row, row_order, same_row}
 use Rattle.value_core.specs.OrderLaws.{rows_apart}
-use Rattle.value_core.proofs.BagLemmas.{one, count-cons, one-itself, count-in_row_order, order-in_row_order, one_order, same_list}
+use Rattle.value_core.proofs.BagLemmas.{one, count-cons, count-in_row_order, order-in_row_order, one_order, same_list}
 
 count-append : (a : Row) (xs ys : List Row) → count_of a (xs ++ ys) ≡ count_of a xs + count_of a ys
 count-append a xs ys = sum_by-append (one a) xs ys

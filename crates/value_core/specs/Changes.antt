@@ -1,5 +1,5 @@
 -- The form of a change.
-use Rattle.std.specs.Prelude.{◌≡◌, ℕ, ◌<◌, ◌≤◌, List}
+use Rattle.std.specs.Prelude.{◌≡◌, ◌<◌, ◌≤◌, List}
 use Rattle.value_core.specs.declared.change.Change.{Change}
 use Rattle.value_core.specs.Bags.{count_of, IsInOrder}
 use Rattle.value_core.specs.Order.{Row}

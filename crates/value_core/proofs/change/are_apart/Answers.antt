@@ -1,4 +1,4 @@
-use Rattle.std.proofs.Common.{◌≡◌, ◌<◌, length, List, [], refl, sym, arith}
+use Rattle.std.proofs.Common.{◌≡◌, refl, sym}
 use Rattle.std.specs.declared.cmp.Ordering.TheVariants.{Less, Equal, Greater}
 use Rattle.value_core.specs.Order.{row_order}
 use Rattle.value_core.proofs.WalkLemmas.{apart_less, apart_greater, apart_equal, apart_left_end, apart_right_end, no_rows, rest_in_order}

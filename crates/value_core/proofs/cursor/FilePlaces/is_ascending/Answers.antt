@@ -1,4 +1,4 @@
-use Rattle.std.proofs.Common.{◌≡◌, ◌<◌, true, sym, ◌∙◌, ap, is_lt, arith}
+use Rattle.std.proofs.Common.{◌≡◌, ◌<◌, true, sym, is_lt, arith}
 use Rattle.value_core.specs.FilePlaces.{file_order}
 use Rattle.value_core.proofs.PlaceLemmas.{places_from}
 use Rattle.value_core.proofs.cursor.FilePlaces.is_ascending.Goals as goal

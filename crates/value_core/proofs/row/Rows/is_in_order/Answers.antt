@@ -1,4 +1,4 @@
-use Rattle.std.proofs.Common.{◌≡◌, false, sym, ◌∙◌, is_gt}
+use Rattle.std.proofs.Common.{◌≡◌, false, sym, is_gt}
 use Rattle.value_core.specs.Order.{row_order}
 use Rattle.value_core.proofs.WalkLemmas.{order_from}
 use Rattle.value_core.proofs.row.Rows.is_in_order.Goals as goal
