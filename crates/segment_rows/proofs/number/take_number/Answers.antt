@@ -1,0 +1,11 @@
+use Rattle.std.proofs.Common.{ℕ, List, drop, length, ap, subst, ◌∙◌, ◌≡◌, ◌≤◌, ◌+◌, Some, arith}
+use Rattle.std.proofs.lemmas.List.{drop-drop, length-drop, take_rest}
+use Rattle.segment_rows.specs.Reading.{number_at}
+use Rattle.segment_rows.proofs.number.take_number.Goals as goal
+
+pub returns-in-Some : goal.returns-in-Some
+returns-in-Some c =
+    let whole = take_rest c.args.bytes.now c.args.at in
+    let number = subst (λ (front : List ℕ). number_at front ≡ Some (c.in-Some.number, drop 8 front)) whole c.in-Some.ensures.number in
+    let long : c.args.at + 8 ≤ length c.args.bytes.now = omega (arith, c.in-Some.ensures.long, ap length whole, length-drop c.args.at c.args.bytes.now) in
+    (omega arith, long, number ∙ ap (λ (rest : List ℕ). Some (c.in-Some.number, rest)) (drop-drop 8 c.args.at c.args.bytes.now))
