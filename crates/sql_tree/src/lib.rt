@@ -3,9 +3,11 @@
 #![tactic(auto)]
 
 mod expr;
+mod lexeme;
 mod statement;
 
 pub use expr::{SqlArm, SqlArms, SqlExpr, SqlExprs, SqlOp, SqlType};
+pub use lexeme::{Lexeme, LexemeKind, same_kind};
 pub use statement::{
     CdcTree, OptionValue, Out, Outs, Select, SqlAction, SqlItem, SqlItems, SqlOption, SqlOptions,
     SqlOrigin, SqlSequence, SqlSome, Statement, Statements,
