@@ -1,0 +1,12 @@
+//! The tokens of a pipeline's text, which is SQL as Databricks writes it (Databricks SQL language reference, lexical
+//! elements: identifiers, literals, comments).
+#![tactic(auto)]
+
+mod error;
+mod lexical;
+mod scan;
+mod token;
+
+pub use error::SqlRefusal;
+pub use scan::{MAX_TEXT, scan_is_one, tokens};
+pub use token::{Token, TokenKind, TokenList};
