@@ -8,5 +8,9 @@ mod scan;
 mod token;
 
 pub use error::SqlRefusal;
+pub use lexical::capped_value;
 pub use scan::{MAX_TEXT, scan_is_one, tokens};
 pub use token::{Token, TokenKind, TokenList};
+
+#[cfg(test)]
+mod tests;
