@@ -1,0 +1,4 @@
+pub mod Turns
+pub mod Phrases
+pub mod Terminals
+pub mod Contexts
