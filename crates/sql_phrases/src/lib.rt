@@ -5,4 +5,4 @@ mod error;
 mod reader;
 
 pub use error::ReadError;
-pub use reader::{Reader, same_kind};
+pub use reader::Reader;

@@ -1,10 +1,10 @@
-ghost use Rattle.std.specs.Prelude.{◌≡◌, true, length, IfOk};
+ghost use Rattle.std.specs.Prelude.{◌≡◌, length, IfOk};
 ghost use Rattle.std.specs.Str.{str_eq_ignore_ascii_case};
 ghost use Rattle.sql_tree.specs.Lexemes as lexemes;
 ghost use Rattle.sql_phrases.specs.Parsers as spec;
 
 use crate::error::ReadError;
-use sql_tree::{Lexeme, LexemeKind, SqlType};
+use sql_tree::{Lexeme, LexemeKind, SqlType, same_kind};
 use std::alloc::{AllocError, Global};
 use std::marker::Model;
 use value_core::{Name, Text};
@@ -161,14 +161,6 @@ impl<'a> Reader<'a> {
         self.skip();
         Ok(found)
     }
-}
-
-/// Whether the kinds are equal.
-pub fn same_kind(a: LexemeKind, b: LexemeKind) -> bool
-    ensures value { result ≡ lexemes.same_kind a b }
-    ensures same { result ≡ true → a ≡ b }
-{
-    a == b
 }
 
 fn begins(tokens: &[Lexeme], wanted: LexemeKind) -> bool

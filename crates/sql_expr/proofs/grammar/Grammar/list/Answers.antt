@@ -1,0 +1,29 @@
+use Rattle.std.proofs.Common.{rules, arith}
+use Rattle.std.proofs.lemmas.Grind.{common_steps}
+use Rattle.sql_expr.specs.Descent.{expr, list, list_from}
+use Rattle.sql_phrases.proofs.Turns.{one_more, no_more}
+use Rattle.sql_expr.proofs.grammar.Grammar.list.Goals as goal
+
+pub returns-in_err-expr : goal.returns-in_err-expr
+unfolding list_from
+returns-in_err-expr g c =
+    let e = one_more (λ n. list_from (expr c.args.self.now.depth) n c.loop-turn.found c.loop-turn.reader) _ c.loop-turn._turn c.loop-turn-test.true c.loop-turn.invariant in
+    first_of (search rules, grind (arith, common_steps))
+
+pub returns-then-not-eat : goal.returns-then-not-eat
+unfolding list_from
+returns-then-not-eat g c =
+    let e = one_more (λ n. list_from (expr c.args.self.now.depth) n c.loop-turn.found c.loop-turn.reader) _ c.loop-turn._turn c.loop-turn-test.true c.loop-turn.invariant in
+    first_of (search rules, grind (arith, common_steps))
+
+pub loop-turn-preserved : goal.loop-turn-preserved
+unfolding list_from
+loop-turn-preserved g c =
+    let e = one_more (λ n. list_from (expr c.args.self.now.depth) n c.loop-turn.found c.loop-turn.reader) _ c.loop-turn._turn c.loop-turn-test.true c.loop-turn.invariant in
+    first_of (search rules, grind (arith, common_steps))
+
+pub returns : goal.returns
+unfolding list_from
+returns g c =
+    let e = no_more (λ n. list_from (expr c.args.self.now.depth) n c.loop-turn.found c.loop-turn.reader) _ c.loop-turn._turn c.loop-turn-test.false c.loop-turn.invariant in
+    first_of (search rules, grind (arith, common_steps))
