@@ -1,7 +1,12 @@
 pub mod Disk
+pub mod Failing
 pub mod Faults
+pub mod Files
+pub mod Image
 pub mod MemDisk
+pub mod MemStreams
 pub mod Moments
 pub mod Record
 pub mod Streams
 pub mod SureDisk
+pub mod Tape

@@ -1,5 +1,5 @@
 // Which calls of a device in memory are to fail.
-ghost use Rattle.std.specs.Prelude.{◌≡◌};
+ghost use Rattle.std.specs.Prelude.{◌≡◌, ◌↔◌, ◌⊎◌, false, IsErr};
 ghost use Rattle.disk_model.specs.Faults.{HasCause};
 
 use crate::Failed;
@@ -13,8 +13,13 @@ pub struct Failing {
 }
 
 impl Failing {
+    ghost use Rattle.disk_model.specs.Failing.{failing_calls, calls_made, next_number, IsListed};
+
+    /// No call was made, and the calls with these numbers are to fail.
     pub fn new(calls: Vec<u64>) -> Failing
-        ensures { result.faults ≡ 0 }
+        ensures faults { result.faults ≡ 0 }
+        ensures made { calls_made result ≡ 0 }
+        ensures calls { failing_calls result ≡ calls.items }
     {
         Failing {
             calls,
@@ -23,12 +28,29 @@ impl Failing {
         }
     }
 
-    /// One call: whether it is to fail.
+    /// One call: it fails where its number is listed.
     pub fn turn(&mut self) -> Result<(), Failed>
-        ensures { HasCause self.old.faults self.new.faults result }
+        ensures cause { HasCause self.old.faults self.new.faults result }
+        ensures fails { IsErr result ↔ IsListed (failing_calls self.old) (calls_made self.old) }
+        ensures made { calls_made self.new ≡ next_number (calls_made self.old) }
+        ensures calls { failing_calls self.new ≡ failing_calls self.old }
+    {
+        self.turn_if(true)
+    }
+
+    /// One call: it fails where its number is listed, and also where it can't go on.
+    pub fn turn_if(&mut self, can_go: bool) -> Result<(), Failed>
+        ensures cause { HasCause self.old.faults self.new.faults result }
+        ensures fails { IsErr result ↔ (IsListed (failing_calls self.old) (calls_made self.old) ⊎ (can_go ≡ false)) }
+        ensures made { calls_made self.new ≡ next_number (calls_made self.old) }
+        ensures calls { failing_calls self.new ≡ failing_calls self.old }
     {
         self.made = self.made.saturating_add(1);
         if self.calls.contains(&self.made) {
+            self.faults = self.faults.saturating_add(1);
+            return Err(Failed);
+        }
+        if !can_go {
             self.faults = self.faults.saturating_add(1);
             return Err(Failed);
         }
