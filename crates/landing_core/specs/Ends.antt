@@ -2,8 +2,8 @@
 use Rattle.std.specs.Prelude.{◌≡◌, ℕ, List, Option, Some, None}
 use Rattle.value_core.specs.declared.cursor.FilePlace.{FilePlace}
 use Rattle.landing_core.specs.declared.landing.Listed.{Listed}
-use Rattle.landing_core.specs.declared.fresh.LineEnd.{LineEnd}
-use Rattle.landing_core.specs.declared.fresh.LineEnd.TheVariants.{Shrunk, Failed, Memory}
+use Rattle.landing_core.specs.declared.ends.LineEnd.{LineEnd}
+use Rattle.landing_core.specs.declared.ends.LineEnd.TheVariants.{Shrunk, Failed, Memory}
 use Rattle.landing_core.specs.Places.{place_of}
 
 -- the end names the file that was found to be shorter than its place; where it is another, none was found

@@ -1,54 +1,39 @@
 // The lines that are new in a folder.
-ghost use Rattle.std.specs.Prelude.{◌≡◌, ◌+◌, ◌≤◌, ◌<◌, ◌^◌, ◌++◌, length, slice_range, IfOk, OnOk, IfErr, MatchOption};
+ghost use Rattle.std.specs.Prelude.{◌≡◌, ◌+◌, ◌≤◌, ◌++◌, ◌∷◌, [], ℕ, List, length, OnOk, IfOk, IfErr, MatchOption};
 ghost use Rattle.disk_model.specs.Faults.{HasCauseOf};
-ghost use Rattle.landing_core.specs.Folders.{AreThere, bytes_of};
-ghost use Rattle.landing_core.specs.Fresh.{new_bytes, new_lines, reach, reach_of, shrunk};
-ghost use Rattle.landing_core.specs.Lines.{row_lines};
-ghost use Rattle.landing_core.specs.Places.{place_of, moved};
+ghost use Rattle.landing_core.specs.Folders.{AreThere, bytes_of, listed_names};
+ghost use Rattle.landing_core.specs.Fresh.{new_lines, new_rows, head_in, heads_of, reach, reach_of, shrunk};
+ghost use Rattle.landing_core.specs.Lines.{head_text};
+ghost use Rattle.landing_core.specs.Names.{AreAscending};
+ghost use Rattle.landing_core.specs.Places.{AreAboveZero, NoneFalls, place_of, placed_names, moved};
 ghost use Rattle.landing_core.specs.Ends.{EndsBy, IsNoShrinkage};
 
-use crate::landing::{Landing, Listed};
-use crate::lines::{FreshLines, count_complete, push_rows};
+use crate::ends::LineEnd;
+use crate::landing::{Landing, Listed, Listing};
+use crate::lines::{FreshLines, Reading};
 use crate::places::{find_place, move_place};
-use disk_model::Failed;
+use crate::reading::{Form, find_head, read_lines};
 use std::alloc::{AllocError, Global};
-use value_core::{FilePlace, FilePlaces, ListOf, Text};
+use value_core::{FilePlace, FilePlaces, Format, Line, ListOf};
 
-/// The lines that are new, and how far the files were read.
+/// The heads of the listed files, one a file in their order, empty where no header is wanted or
+/// none is there.
+pub type Heads = ListOf<Line>;
+
+/// The lines that are new with the heads of their files, and how far the files are read then.
 #[derive(Drop)]
 pub struct Fresh {
+    pub heads: Heads,
     pub lines: FreshLines,
     pub cursor: FilePlaces,
 }
 
-/// Why the lines weren't read.
+/// What was read so far.
 #[derive(Drop)]
-pub enum LineEnd {
-    Shrunk { file: Text, cursor: u64, size: u64 },
-    Failed,
-    Memory,
-}
-
-impl From<AllocError> for LineEnd {
-    ghost use Rattle.std.specs.Prelude.{◌≡◌};
-    ghost use Rattle.landing_core.specs.declared.fresh.LineEnd.TheVariants.{Memory};
-
-    ghost from_gives = { λ _ e. e ≡ Memory };
-
-    fn from(_e: AllocError) -> LineEnd {
-        LineEnd::Memory
-    }
-}
-
-impl From<Failed> for LineEnd {
-    ghost use Rattle.std.specs.Prelude.{◌≡◌};
-    ghost use Rattle.landing_core.specs.declared.fresh.LineEnd.TheVariants.{Failed};
-
-    ghost from_gives = { λ _ e. e ≡ Failed };
-
-    fn from(_e: Failed) -> LineEnd {
-        LineEnd::Failed
-    }
+struct Progress {
+    heads: Heads,
+    lines: FreshLines,
+    places: Vec<FilePlace>,
 }
 
 /// The first listed file that is shorter than its place.
@@ -61,13 +46,6 @@ fn find_shrunk<'a>(places: &[FilePlace], listing: &'a [Listed]) -> Option<&'a Li
         }
     }
     None
-}
-
-/// What was read so far.
-#[derive(Drop)]
-struct Progress {
-    lines: FreshLines,
-    places: Vec<FilePlace>,
 }
 
 /// The places once more.
@@ -98,69 +76,81 @@ fn shrinkage(alloc: Global, places: &[FilePlace], listed: &Listed) -> LineEnd
     }
 }
 
-/// The bytes of a listed file behind its place and within its listed size.
-fn read_new<L: Landing>(
-    alloc: Global,
-    landing: &mut L,
-    dir: &str,
-    listed: &Listed,
-    place: u64,
-) -> Result<Vec<u8>, LineEnd>
-    requires within { place ≤ listed.now.size }
-    requires there { L.tells → listed.now.size ≤ length (bytes_of dir.now listed.now.file (L.present landing.old)) }
-    ensures bytes { L.tells → IfOk result (λ bytes. bytes.items ≡ slice_range (bytes_of dir.now listed.now.file (L.present landing.old)) place listed.now.size) }
-    ensures len { IfOk result (λ bytes. length bytes.items + place ≡ listed.now.size) }
-    ensures present { L.tells → L.present landing.new ≡ L.present landing.old }
-    ensures ever { L.tells → L.ever landing.new ≡ L.ever landing.old }
-    ensures err { IfErr result IsNoShrinkage }
-    ensures cause { HasCauseOf LineEnd.Failed (L.faults landing.old) (L.faults landing.new) result }
-{
-    let mut bytes = vec![in alloc; 0u8; (listed.size - place) as usize]?;
-    if !bytes.is_empty() {
-        landing.read_at(dir, listed.file.as_str(), place, bytes.as_mut_slice())?;
-    }
-    Ok(bytes)
-}
-
-/// Adds the new lines of one listed file, and notes how far it was read.
+/// Adds the head and the new lines of one listed file, and notes how far it was read.
 fn take_file<L: Landing>(
     alloc: Global,
     landing: &mut L,
     dir: &str,
     places: &[FilePlace],
+    form: Form,
     number: u64,
     listed: &Listed,
     fresh: &mut Progress,
 ) -> Result<(), LineEnd>
     requires within { place_of places.now listed.now.file ≤ listed.now.size }
     requires there { L.tells → listed.now.size ≤ length (bytes_of dir.now listed.now.file (L.present landing.old)) }
-    ensures lines { L.tells → OnOk result (fresh.new.lines ≡ fresh.old.lines ++ row_lines number (place_of places.now listed.now.file) (new_bytes dir.now (L.present landing.old) places.now listed.now)) }
+    requires json { form.format ≡ Format.Json }
+    ensures heads { L.tells → OnOk result (fresh.new.heads ≡ fresh.old.heads ++ head_text (head_in form.format form.header dir.now (L.present landing.old) listed.now) ∷ []) }
+    ensures lines { L.tells → OnOk result (fresh.new.lines ≡ fresh.old.lines ++ new_rows form.format form.header dir.now (L.present landing.old) places.now number listed.now) }
     ensures places { L.tells → OnOk result (fresh.new.places.items ≡ moved listed.now.file (reach_of dir.now (L.present landing.old) places.now listed.now) fresh.old.places.items) }
+    ensures later { OnOk result ((place : ℕ) × (place_of places.now listed.now.file ≤ place) × (fresh.new.places.items ≡ moved listed.now.file place fresh.old.places.items)) }
     ensures present { L.tells → L.present landing.new ≡ L.present landing.old }
     ensures ever { L.tells → L.ever landing.new ≡ L.ever landing.old }
     ensures err { IfErr result IsNoShrinkage }
     ensures cause { HasCauseOf LineEnd.Failed (L.faults landing.old) (L.faults landing.new) result }
 {
     let place = find_place(places, listed.file.as_str());
-    let bytes = read_new(alloc, landing, dir, listed, place)?;
-    push_rows(alloc, &mut fresh.lines, number, place, bytes.as_slice())?;
-    let reach = place + count_complete(bytes.as_slice()) as u64;
+    let head = find_head(alloc, landing, dir, form, listed)?;
+    let reading = Reading {
+        format: form.format,
+        head: head.place,
+        number,
+    };
+    let reach = read_lines(
+        alloc,
+        landing,
+        dir,
+        listed,
+        place,
+        reading,
+        &mut fresh.lines,
+    )?;
+    fresh.heads.push(head.text)?;
     move_place(&mut fresh.places, listed.file.copy(alloc)?, reach)?;
     Ok(())
 }
 
-/// The lines that are new in the listed files of a folder, and how far the files are read then.
+/// The lines that are new in the listed files of a folder, with the heads of the files, and how far
+/// the files are read then. Each byte of a file behind its place is read once, in pieces; the
+/// memory taken is a small multiple of the lines that are new.
+///
+/// A new line is a row unless it is blank (in CSV an empty line, in JSON one of spaces and tabs).
+/// It is given without its LF, without one CR before that, and without a byte order mark at the
+/// file's beginning (RFC 8259 §8.1 lets a reader pass over one). A last line without LF isn't read.
 pub fn fresh_lines<L: Landing>(
     alloc: Global,
     landing: &mut L,
     dir: &str,
-    listing: &[Listed],
-    cursor: &[FilePlace],
+    listing: &Listing,
+    cursor: &FilePlaces,
+    format: Format,
+    header: bool,
 ) -> Result<Fresh, LineEnd>
-    requires { L.tells → AreThere dir.now (L.present landing.old) listing.now }
+    requires ascending { AreAscending (placed_names cursor.now) }
+    requires above_zero { AreAboveZero cursor.now }
+    requires listed { AreAscending (listed_names listing.now) }
+    requires there { L.tells → AreThere dir.now (L.present landing.old) listing.now }
+    requires json { format ≡ Format.Json }
 
-    ensures lines { L.tells → IfOk result (λ fresh. fresh.lines ≡ new_lines dir.now (L.present landing.old) cursor.now 0 listing.now) }
+    ensures heads { L.tells → IfOk result (λ fresh. fresh.heads ≡ heads_of format header dir.now (L.present landing.old) listing.now) }
+    ensures lines { L.tells → IfOk result (λ fresh. fresh.lines ≡ new_lines format header dir.now (L.present landing.old) cursor.now 0 listing.now) }
     ensures cursor { L.tells → IfOk result (λ fresh. fresh.cursor ≡ reach dir.now (L.present landing.old) cursor.now listing.now) }
+
+    // Whatever the landing tells, the new places are places again, and none falls.
+    ensures ascending { IfOk result (λ fresh. AreAscending (placed_names fresh.cursor)) }
+    ensures above_zero { IfOk result (λ fresh. AreAboveZero fresh.cursor) }
+    ensures later { IfOk result (λ fresh. NoneFalls cursor.now fresh.cursor) }
+
     ensures present { L.tells → L.present landing.new ≡ L.present landing.old }
     ensures ever { L.tells → L.ever landing.new ≡ L.ever landing.old }
 
@@ -169,18 +159,48 @@ pub fn fresh_lines<L: Landing>(
     ensures err { IfErr result (EndsBy (shrunk cursor.now listing.now) cursor.now) }
     ensures cause { HasCauseOf LineEnd.Failed (L.faults landing.old) (L.faults landing.new) result }
 {
-    if let Some(listed) = find_shrunk(cursor, listing) {
-        return Err(shrinkage(alloc, cursor, listed));
+    if let Some(listed) = find_shrunk(cursor.as_slice(), listing.as_slice()) {
+        return Err(shrinkage(alloc, cursor.as_slice(), listed));
     }
+    read_files(alloc, landing, dir, listing.as_slice(), cursor.as_slice(), Form { format, header })
+}
+
+/// The lines that are new in files that are all as long as their places or longer.
+fn read_files<L: Landing>(
+    alloc: Global,
+    landing: &mut L,
+    dir: &str,
+    listing: &[Listed],
+    cursor: &[FilePlace],
+    form: Form,
+) -> Result<Fresh, LineEnd>
+    requires ascending { AreAscending (placed_names cursor.now) }
+    requires above_zero { AreAboveZero cursor.now }
+    requires there { L.tells → AreThere dir.now (L.present landing.old) listing.now }
+    requires unshrunk { shrunk cursor.now listing.now ≡ None }
+    requires json { form.format ≡ Format.Json }
+    ensures heads { L.tells → IfOk result (λ fresh. fresh.heads ≡ heads_of form.format form.header dir.now (L.present landing.old) listing.now) }
+    ensures lines { L.tells → IfOk result (λ fresh. fresh.lines ≡ new_lines form.format form.header dir.now (L.present landing.old) cursor.now 0 listing.now) }
+    ensures cursor { L.tells → IfOk result (λ fresh. fresh.cursor ≡ reach dir.now (L.present landing.old) cursor.now listing.now) }
+    ensures ascending { IfOk result (λ fresh. AreAscending (placed_names fresh.cursor)) }
+    ensures above_zero { IfOk result (λ fresh. AreAboveZero fresh.cursor) }
+    ensures later { IfOk result (λ fresh. NoneFalls cursor.now fresh.cursor) }
+    ensures present { L.tells → L.present landing.new ≡ L.present landing.old }
+    ensures ever { L.tells → L.ever landing.new ≡ L.ever landing.old }
+    ensures err { IfErr result IsNoShrinkage }
+    ensures cause { HasCauseOf LineEnd.Failed (L.faults landing.old) (L.faults landing.new) result }
+{
     let mut fresh = Progress {
+        heads: ListOf::new(alloc),
         lines: ListOf::new(alloc),
         places: copy_places(alloc, cursor)?,
     };
     for (k, listed) in listing.iter().enumerate() {
-        take_file(alloc, landing, dir, cursor, k as u64, listed, &mut fresh)?;
+        take_file(alloc, landing, dir, cursor, form, k as u64, listed, &mut fresh)?;
     }
-    let Progress { lines, places } = fresh;
+    let Progress { heads, lines, places } = fresh;
     Ok(Fresh {
+        heads,
         lines,
         cursor: ListOf::from_vec(places),
     })

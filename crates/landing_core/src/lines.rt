@@ -1,10 +1,10 @@
-// Cutting bytes into lines.
-ghost use Rattle.std.specs.Prelude.{◌≡◌, ◌≤◌, ◌++◌, length, OnOk};
-ghost use Rattle.std.specs.List.{flat_map};
-ghost use Rattle.landing_core.specs.Lines.{complete_len, complete_lines, without_cr, is_blank, without_mark, row_line, row_lines};
+// Cutting the bytes of a file into lines, piece by piece.
+ghost use Rattle.std.specs.Prelude.{◌≡◌, ◌+◌, ◌<◌, ◌≤◌, ◌^◌, ◌++◌, ◌∷◌, [], ℕ, List, length, OnOk};
+ghost use Rattle.landing_core.specs.Lines.{CompleteLine, has_mark, without_cr, text_of, is_blank, row_line};
+ghost use Rattle.landing_core.specs.Pieces.{ReadsOn, EndsOn};
 
 use std::alloc::{AllocError, Global};
-use value_core::{Line, ListOf};
+use value_core::{Format, Line, ListOf};
 
 /// A line that is a row, with the number of its file in the listing, from 0.
 #[derive(Drop)]
@@ -16,18 +16,20 @@ pub struct FreshLine {
 /// Lines that are rows, in order.
 pub type FreshLines = ListOf<FreshLine>;
 
-/// How many of the bytes stand in complete lines.
-pub(crate) fn count_complete(bytes: &[u8]) -> usize
-    ensures count { result ≡ complete_len bytes.now }
-    ensures bound { result ≤ length bytes.now }
-{
-    let mut end = 0;
-    for (i, byte) in bytes.iter().enumerate() {
-        if *byte == b'\n' {
-            end = i + 1;
-        }
-    }
-    end
+/// How the lines of a file are read: its format, where its head begins if it has one, and its
+/// number in the listing.
+#[derive(Clone, Copy)]
+pub(crate) struct Reading {
+    pub format: Format,
+    pub head: Option<u64>,
+    pub number: u64,
+}
+
+/// A line that has begun: where it begins in its file, and its bytes so far.
+#[derive(Drop)]
+pub(crate) struct Begun {
+    pub start: u64,
+    pub bytes: Vec<u8>,
 }
 
 /// A line without one CR at its end.
@@ -41,73 +43,86 @@ fn trim_cr(line: &[u8]) -> &[u8]
     }
 }
 
-/// Whether a line is of spaces and tabs alone.
-fn is_blank_line(line: &[u8]) -> bool
-    ensures { result ≡ is_blank line.now }
+/// Whether a line begins with a byte order mark, as the first line of a file may.
+fn is_marked(start: u64, bytes: &[u8]) -> bool
+    ensures { result ≡ has_mark start bytes.now }
 {
-    line.iter().all(|b| *b == b' ' || *b == b'\t')
+    start == 0 && bytes.len() >= 3 && bytes[0] == 0xef && bytes[1] == 0xbb && bytes[2] == 0xbf
 }
 
-/// The bytes of a file without a byte order mark at its beginning.
-fn trim_mark(bytes: &[u8]) -> &[u8]
-    ensures { result.now ≡ without_mark bytes.now }
+/// Whether a line is blank: in CSV an empty one, in JSON one of spaces and tabs.
+fn is_blank_line(format: Format, text: &[u8]) -> bool
+    ensures { result ≡ is_blank format text.now }
 {
-    if bytes.len() >= 3 && bytes[0] == 0xef && bytes[1] == 0xbb && bytes[2] == 0xbf {
-        &bytes[3..]
-    } else {
-        bytes
+    match format {
+        Format::Csv => text.is_empty(),
+        Format::Json => text.iter().all(|b| *b == b' ' || *b == b'\t'),
     }
 }
 
-/// Adds a line, if it is a row.
+/// Adds a complete line, if it is a row.
 fn push_line(
     alloc: Global,
     lines: &mut FreshLines,
-    number: u64,
-    line: &[u8],
-) -> Result<(), AllocError>
-    ensures { OnOk result (lines.new ≡ lines.old ++ row_line number line.now) }
-{
-    let line = trim_cr(line);
-    if is_blank_line(line) {
-        return Ok(());
-    }
-    let line = ListOf::from_vec(Vec::from_slice(alloc, line)?);
-    lines.push(FreshLine { file: number, line })
-}
-
-/// Adds the complete lines of the bytes that are rows.
-fn push_lines(
-    alloc: Global,
-    lines: &mut FreshLines,
-    number: u64,
+    reading: Reading,
+    start: u64,
     bytes: &[u8],
 ) -> Result<(), AllocError>
-    ensures { OnOk result (lines.new ≡ lines.old ++ flat_map (row_line number) (complete_lines bytes.now)) }
+    ensures { let line : CompleteLine = record { start = start; bytes = bytes.now } in OnOk result (lines.new ≡ lines.old ++ row_line reading.format reading.head reading.number line) }
 {
-    let mut start = 0;
-    for (i, byte) in bytes.iter().enumerate() {
-        if *byte == b'\n' {
-            push_line(alloc, lines, number, &bytes[start..i])?;
-            start = i + 1;
-        }
+    let marked = is_marked(start, bytes);
+    let text = trim_cr(if marked { &bytes[3..] } else { bytes });
+    let first = if marked { 3 } else { start };
+    if is_blank_line(reading.format, text) || reading.head == Some(first) {
+        return Ok(());
+    }
+    let line = ListOf::from_vec(Vec::from_slice(alloc, text)?);
+    lines.push(FreshLine {
+        file: reading.number,
+        line,
+    })
+}
+
+/// Goes on with the line that has begun at the next byte of the file.
+fn push_byte(
+    alloc: Global,
+    lines: &mut FreshLines,
+    reading: Reading,
+    begun: &mut Begun,
+    byte: u8,
+) -> Result<(), AllocError>
+    requires { begun.old.start + length begun.old.bytes.items + 1 < 2 ^ 64 }
+    ensures lines { OnOk result (ReadsOn reading.format reading.head reading.number (byte ∷ []) begun.old lines.old begun.new lines.new) }
+    ensures end { OnOk result (EndsOn (byte ∷ []) begun.old begun.new) }
+    ensures place { OnOk result (begun.new.start + length begun.new.bytes.items ≡ begun.old.start + length begun.old.bytes.items + 1) }
+    ensures later { begun.old.start ≤ begun.new.start }
+{
+    if byte == b'\n' {
+        push_line(alloc, lines, reading, begun.start, begun.bytes.as_slice())?;
+        begun.start += begun.bytes.len() as u64 + 1;
+        begun.bytes.clear();
+    } else {
+        begun.bytes.push(byte)?;
     }
     Ok(())
 }
 
-/// Adds the rows of a file that begin at a place, of these bytes behind it.
-pub(crate) fn push_rows(
+/// Goes on with the line that has begun at the next piece of the file.
+pub(crate) fn push_piece(
     alloc: Global,
     lines: &mut FreshLines,
-    number: u64,
-    place: u64,
-    bytes: &[u8],
+    reading: Reading,
+    begun: &mut Begun,
+    piece: &[u8],
 ) -> Result<(), AllocError>
-    ensures { OnOk result (lines.new ≡ lines.old ++ row_lines number place bytes.now) }
+    requires { begun.old.start + length begun.old.bytes.items + length piece.now < 2 ^ 64 }
+    ensures lines { OnOk result (ReadsOn reading.format reading.head reading.number piece.now begun.old lines.old begun.new lines.new) }
+    ensures end { OnOk result (EndsOn piece.now begun.old begun.new) }
+    ensures place { OnOk result (begun.new.start + length begun.new.bytes.items ≡ begun.old.start + length begun.old.bytes.items + length piece.now) }
+    ensures later { begun.old.start ≤ begun.new.start }
 {
-    if place == 0 {
-        push_lines(alloc, lines, number, trim_mark(bytes))
-    } else {
-        push_lines(alloc, lines, number, bytes)
+    for byte in piece {
+        push_byte(alloc, lines, reading, begun, *byte)?;
     }
+    Ok(())
 }
