@@ -1,6 +1,6 @@
 // Cutting the bytes of a file into lines, piece by piece.
 ghost use Rattle.std.specs.Prelude.{◌≡◌, ◌+◌, ◌<◌, ◌≤◌, ◌^◌, ◌++◌, ◌∷◌, [], ℕ, List, length, OnOk};
-ghost use Rattle.landing_core.specs.Lines.{CompleteLine, has_mark, without_cr, text_of, is_blank, row_line};
+ghost use Rattle.landing_core.specs.Lines.{CompleteLine, has_mark, without_cr, text_of, first_byte, is_blank, is_head, row_line};
 ghost use Rattle.landing_core.specs.Pieces.{ReadsOn, EndsOn};
 
 use std::alloc::{AllocError, Global};
@@ -50,13 +50,48 @@ fn is_marked(start: u64, bytes: &[u8]) -> bool
     start == 0 && bytes.len() >= 3 && bytes[0] == 0xef && bytes[1] == 0xbb && bytes[2] == 0xbf
 }
 
+/// Whether a text is of spaces and tabs alone.
+fn is_spaces(text: &[u8]) -> bool
+    ensures { result ≡ is_blank Format.Json text.now }
+{
+    text.iter().all(|b| *b == b' ' || *b == b'\t')
+}
+
 /// Whether a line is blank: in CSV an empty one, in JSON one of spaces and tabs.
 fn is_blank_line(format: Format, text: &[u8]) -> bool
     ensures { result ≡ is_blank format text.now }
 {
     match format {
+        Format::Json => is_spaces(text),
         Format::Csv => text.is_empty(),
-        Format::Json => text.iter().all(|b| *b == b' ' || *b == b'\t'),
+    }
+}
+
+/// The text of a line: without a byte order mark and without one CR at its end.
+fn line_text(start: u64, bytes: &[u8]) -> &[u8]
+    ensures { let line : CompleteLine = record { start = start; bytes = bytes.now } in result.now ≡ text_of line }
+{
+    if is_marked(start, bytes) {
+        trim_cr(&bytes[3..])
+    } else {
+        trim_cr(bytes)
+    }
+}
+
+/// The place of a line's first byte.
+fn line_place(start: u64, bytes: &[u8]) -> u64
+    ensures { let line : CompleteLine = record { start = start; bytes = bytes.now } in result ≡ first_byte line }
+{
+    if is_marked(start, bytes) { 3 } else { start }
+}
+
+/// Whether a line is the head that begins at this place.
+fn is_head_line(head: Option<u64>, start: u64, bytes: &[u8]) -> bool
+    ensures { let line : CompleteLine = record { start = start; bytes = bytes.now } in result ≡ is_head head line }
+{
+    match head {
+        Some(place) => line_place(start, bytes) == place,
+        None => false,
     }
 }
 
@@ -70,10 +105,8 @@ fn push_line(
 ) -> Result<(), AllocError>
     ensures { let line : CompleteLine = record { start = start; bytes = bytes.now } in OnOk result (lines.new ≡ lines.old ++ row_line reading.format reading.head reading.number line) }
 {
-    let marked = is_marked(start, bytes);
-    let text = trim_cr(if marked { &bytes[3..] } else { bytes });
-    let first = if marked { 3 } else { start };
-    if is_blank_line(reading.format, text) || reading.head == Some(first) {
+    let text = line_text(start, bytes);
+    if is_blank_line(reading.format, text) || is_head_line(reading.head, start, bytes) {
         return Ok(());
     }
     let line = ListOf::from_vec(Vec::from_slice(alloc, text)?);

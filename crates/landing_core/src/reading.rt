@@ -76,7 +76,8 @@ pub(crate) fn read_lines<L: Landing>(
         start: place,
         bytes: Vec::new(alloc),
     };
-    let mut buffer = vec![in alloc; 0u8; PIECE.min(listed.size - place) as usize]?;
+    let mut room = vec![in alloc; 0u8; PIECE.min(listed.size - place) as usize]?;
+    let buffer = room.as_mut_slice();
     let mut at = place;
     while at < listed.size {
         let len = PIECE.min(listed.size - at) as usize;
