@@ -162,7 +162,14 @@ pub fn fresh_lines<L: Landing>(
     if let Some(listed) = find_shrunk(cursor.as_slice(), listing.as_slice()) {
         return Err(shrinkage(alloc, cursor.as_slice(), listed));
     }
-    read_files(alloc, landing, dir, listing.as_slice(), cursor.as_slice(), Form { format, header })
+    read_files(
+        alloc,
+        landing,
+        dir,
+        listing.as_slice(),
+        cursor.as_slice(),
+        Form { format, header },
+    )
 }
 
 /// The lines that are new in files that are all as long as their places or longer.
@@ -196,9 +203,15 @@ fn read_files<L: Landing>(
         places: copy_places(alloc, cursor)?,
     };
     for (k, listed) in listing.iter().enumerate() {
-        take_file(alloc, landing, dir, cursor, form, k as u64, listed, &mut fresh)?;
+        take_file(
+            alloc, landing, dir, cursor, form, k as u64, listed, &mut fresh,
+        )?;
     }
-    let Progress { heads, lines, places } = fresh;
+    let Progress {
+        heads,
+        lines,
+        places,
+    } = fresh;
     Ok(Fresh {
         heads,
         lines,

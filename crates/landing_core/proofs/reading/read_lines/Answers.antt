@@ -23,10 +23,10 @@ loop-at-preserved g c =
       present = λ t. read.present t ∙ before.present t;
       ever = λ t. read.ever t ∙ before.ever t;
       lines = λ t.
-        let is : c.read_at.new.into ≡ slice_range bytes c.loop-at.at (c.loop-at.at + c.min-len.result) = piece_is bytes _ c.loop-at.at c.min-len.result _ (rw (c.as_str.ensures, before.present t) at (read.bytes t)) (simp length-take (omega arith)) in
-        rows_more reading.format reading.head reading.number bytes c.read_at.new.into c.loop-at.at c.min-len.result listed.size c.loop-at.begun c.push_piece.new.begun c.loop-at.lines c.push_piece.new.lines _ within is more.lines (before.lines t);
+          let is : c.read_at.new.into ≡ slice_range bytes c.loop-at.at (c.loop-at.at + c.min-len.result) = piece_is bytes _ c.loop-at.at c.min-len.result _ (rw (c.as_str.ensures, before.present t) at (read.bytes t)) (simp length-take (omega arith)) in
+          rows_more reading.format reading.head reading.number bytes c.read_at.new.into c.loop-at.at c.min-len.result listed.size c.loop-at.begun c.push_piece.new.begun c.loop-at.lines c.push_piece.new.lines _ within is more.lines (before.lines t);
       end = λ t.
-        let is : c.read_at.new.into ≡ slice_range bytes c.loop-at.at (c.loop-at.at + c.min-len.result) = piece_is bytes _ c.loop-at.at c.min-len.result _ (rw (c.as_str.ensures, before.present t) at (read.bytes t)) (simp length-take (omega arith)) in
-        end_more bytes c.read_at.new.into c.loop-at.at c.min-len.result listed.size c.loop-at.begun c.push_piece.new.begun _ within is more.end (before.end t);
+          let is : c.read_at.new.into ≡ slice_range bytes c.loop-at.at (c.loop-at.at + c.min-len.result) = piece_is bytes _ c.loop-at.at c.min-len.result _ (rw (c.as_str.ensures, before.present t) at (read.bytes t)) (simp length-take (omega arith)) in
+          end_more bytes c.read_at.new.into c.loop-at.at c.min-len.result listed.size c.loop-at.begun c.push_piece.new.begun _ within is more.end (before.end t);
       faults = read.cause.kept ∙ before.faults;
     }
