@@ -1,5 +1,5 @@
 -- Tokens as slices of a text, one more at a time.
-use Rattle.std.proofs.Common.{◌≡◌, ℕ, ◌+◌, ◌-◌, ◌≤◌, ◌<◌, Bool, true, false, nat_lt, List, [], ◌∷◌, ◌++◌, take, drop, refl, sym, ap, ◌∙◌, subst, arith}
+use Rattle.std.proofs.Common.{◌≡◌, ℕ, ◌+◌, ◌-◌, ◌≤◌, false, List, [], ◌∷◌, ◌++◌, take, drop, refl, sym, ap, ◌∙◌, arith}
 use Rattle.std.proofs.lemmas.Bool.Decides.{nat_tests}
 use Rattle.sql_tokens.specs.declared.token.Token as tokens
 use Rattle.sql_tokens.specs.declared.token.TokenKind.{TokenKind}
@@ -7,8 +7,8 @@ use Rattle.sql_tokens.specs.declared.token.TokenKind.TheVariants as kinds
 use Rattle.sql_tokens.specs.declared.lexical.Piece.TheVariants.{Token}
 use Rattle.sql_tokens.specs.declared.lexical.Context.{Context}
 use Rattle.sql_tokens.specs.declared.lexical.Context.TheVariants.{Open, Sign, Operand}
-use Rattle.sql_tokens.specs.Lexical.{Text, piece, is_too_large, capped_value}
-use Rattle.sql_tokens.specs.Slices.{slice, IsTokenOf, IsSliced}
+use Rattle.sql_tokens.specs.Lexical.{Text, piece, is_too_large}
+use Rattle.sql_tokens.specs.Slices.{IsTokenOf, IsSliced}
 
 pub sliced_further : (text : Text) (from end more : ℕ) (found : List tokens.Token) → IsSliced text from end found → end ≤ more → IsSliced text from more found
 sliced_further text from end more [] h le = omega arith

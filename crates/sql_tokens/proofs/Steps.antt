@@ -1,5 +1,5 @@
 -- The steps of a scan, at any place of a text.
-use Rattle.std.proofs.Common.{◌≡◌, ◌≢◌, ℕ, ◌+◌, ◌-◌, ◌≤◌, ◌<◌, Bool, true, false, List, [], ◌∷◌, ◌++◌, length, take, drop, Result, Ok, Err, refl, sym, ap, ◌∙◌, subst, arith, length-drop, drop_of_length-le}
+use Rattle.std.proofs.Common.{◌≡◌, ℕ, ◌+◌, ◌-◌, ◌≤◌, ◌<◌, true, false, List, [], ◌∷◌, ◌++◌, length, take, drop, Ok, Err, sym, subst, arith, length-drop, drop_of_length-le}
 use Rattle.std.proofs.lemmas.List.{drop-drop, take_all}
 use Rattle.sql_tokens.specs.declared.token.Token as tokens
 use Rattle.sql_tokens.specs.declared.token.TokenKind.{TokenKind}

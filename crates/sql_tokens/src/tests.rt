@@ -1,5 +1,5 @@
 use crate::{MAX_TEXT, SqlRefusal, TokenKind, capped_value, tokens};
-use std::alloc::Global;
+use std::alloc::{AllocError, Global};
 use std::test::Fail;
 
 /// Whether the tokens of a text stand at these places, each with its end and kind.
@@ -122,11 +122,17 @@ fn large_literals_stand_behind_a_sign(rt: HostRuntime) -> Result<(), Fail> {
     Ok(())
 }
 
+/// A text of blanks.
+fn blanks(alloc: Global, count: usize) -> Result<Vec<u8>, AllocError> {
+    vec![in alloc; b' '; count]
+}
+
 #[test]
 fn long_texts_are_refused(rt: HostRuntime) -> Result<(), Fail> {
     let alloc = rt.alloc();
-    let text = vec![in alloc; b' '; MAX_TEXT + 1]?;
-    assert!(rt; refusal(alloc, text.as_slice()) == Some(SqlRefusal::TextTooLong));
-    assert!(rt; has_tokens(alloc, &text.as_slice()[..MAX_TEXT], &[]));
+    let longest = blanks(alloc, MAX_TEXT)?;
+    assert!(rt; has_tokens(alloc, longest.as_slice(), &[]));
+    let longer = blanks(alloc, MAX_TEXT + 1)?;
+    assert!(rt; refusal(alloc, longer.as_slice()) == Some(SqlRefusal::TextTooLong));
     Ok(())
 }
