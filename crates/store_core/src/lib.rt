@@ -6,11 +6,17 @@
 //! store with no places and no changes.
 #![tactic(auto)]
 
+mod laws;
+mod order;
 mod reading;
 mod spelling;
 mod store;
 mod valid;
 
+pub use laws::{
+    reading_gives_back_what_was_written, value_order_rises, what_is_read_is_its_spelling,
+};
+pub use order::sort_values;
 pub use reading::read;
 pub use spelling::spell;
 pub use store::{Store, Values};

@@ -1,6 +1,7 @@
 // The store that bytes spell.
-ghost use Rattle.std.specs.Prelude.{◌≡◌, Some, List, map, IfOk, true, false, MatchOption};
+ghost use Rattle.std.specs.Prelude.{◌≡◌, Some, List, map, IfOk, IfSome, true, false, MatchOption};
 ghost use Rattle.std.specs.Str.{is_utf8};
+ghost use Rattle.store_core.specs.Valid.{IsStore};
 ghost use Rattle.store_core.specs.Reading.{Gives, number_at, text_at, place_at, value_at, items_at, places_at, change_at, changes_at, behind_magic, store_at, stored};
 
 use crate::store::{Store, Values};
@@ -180,9 +181,11 @@ fn store_of(alloc: Global, bytes: &[u8]) -> Result<Store, Unread>
     Ok(store)
 }
 
-/// The store that a file's bytes are: an empty file is one with nothing yet.
+/// The store that a file's bytes are: an empty file is one with nothing yet. `None` where the bytes are neither empty
+/// nor the spelling of a store. It takes memory for what is there, and not for what a number in the bytes claims.
 pub fn read(alloc: Global, bytes: &[u8]) -> Result<Option<Store>, AllocError>
-    ensures { IfOk result (λ store. store ≡ stored bytes.now) }
+    ensures stored { IfOk result (λ store. store ≡ stored bytes.now) }
+    ensures is_store { IfOk result (λ store. IfSome store IsStore) }
 {
     if bytes.is_empty() {
         return Ok(Some(Store {
