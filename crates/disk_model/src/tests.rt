@@ -47,53 +47,74 @@ fn images_are(
     Ok(())
 }
 
+// What a crash leaves of a file with one write that was not synced.
+fn one_write_leaves(
+    rt: &impl Abort,
+    alloc: Global,
+    (side, at, piece): (Side, u64, &[u8]),
+    new: &[u8],
+    filled: &[u8],
+) -> Result<(), Fail> {
+    let mut disk = first_disk(alloc, Vec::new(alloc))?;
+    write(rt, &mut disk, side, at, piece)?;
+    images_are(rt, alloc, &disk, side, FIRST, new, filled)
+}
+
 #[test]
-fn what_was_not_synced_is_old_new_or_filled(rt: HostRuntime) -> Result<(), Fail> {
+fn a_write_that_was_not_synced_is_old_new_or_filled(rt: HostRuntime) -> Result<(), Fail> {
     let alloc = rt.alloc();
-    for (side, other) in [(Side::Left, Side::Right), (Side::Right, Side::Left)] {
-        // A write within the file, one past its end, and a cut.
-        let mut disk = first_disk(alloc, Vec::new(alloc))?;
-        write(&rt, &mut disk, side, 1, b"XY")?;
-        images_are(&rt, alloc, &disk, side, FIRST, b"aXYdef", b"a\xa5\xa5def")?;
-        let mut disk = first_disk(alloc, Vec::new(alloc))?;
-        write(&rt, &mut disk, side, 4, b"XYZ")?;
-        images_are(
+    for side in [Side::Left, Side::Right] {
+        one_write_leaves(&rt, alloc, (side, 1, b"XY"), b"aXYdef", b"a\xa5\xa5def")?;
+        one_write_leaves(
             &rt,
             alloc,
-            &disk,
-            side,
-            FIRST,
+            (side, 4, b"XYZ"),
             b"abcdXYZ",
             b"abcd\xa5\xa5\xa5",
         )?;
+    }
+    Ok(())
+}
+
+#[test]
+fn a_cut_that_was_not_synced_is_old_new_or_filled(rt: HostRuntime) -> Result<(), Fail> {
+    let alloc = rt.alloc();
+    for side in [Side::Left, Side::Right] {
         let mut disk = first_disk(alloc, Vec::new(alloc))?;
         let len = disk.len(side)?;
         assert!(rt; 2 <= len);
         disk.cut(side, 2)?;
         images_are(&rt, alloc, &disk, side, FIRST, b"ab", b"ab\xa5\xa5\xa5\xa5")?;
-
-        // Two writes with no sync between. One of the other file changes nothing.
-        let mut disk = first_disk(alloc, Vec::new(alloc))?;
-        write(&rt, &mut disk, side, 0, b"X")?;
-        let earlier = disk.calls();
-        write(&rt, &mut disk, side, 5, b"YZ")?;
-        disk.sync(other)?;
-        images_are(
-            &rt,
-            alloc,
-            &disk,
-            side,
-            FIRST,
-            b"XbcdeYZ",
-            b"\xa5bcde\xa5\xa5",
-        )?;
-        images_are(&rt, alloc, &disk, other, FIRST, FIRST, FIRST)?;
-        let before = disk.image(alloc, earlier, side, Pick::New)?;
-        assert_eq!(rt; before.as_slice(), b"Xbcdef".as_slice());
-        disk.sync(side)?;
-        images_are(&rt, alloc, &disk, side, b"XbcdeYZ", b"XbcdeYZ", b"XbcdeYZ")?;
     }
     Ok(())
+}
+
+#[test]
+fn two_writes_with_no_sync_between(rt: HostRuntime) -> Result<(), Fail> {
+    let alloc = rt.alloc();
+    let mut disk = first_disk(alloc, Vec::new(alloc))?;
+    write(&rt, &mut disk, Side::Left, 0, b"X")?;
+    write(&rt, &mut disk, Side::Left, 5, b"YZ")?;
+    disk.sync(Side::Right)?;
+    images_are(
+        &rt,
+        alloc,
+        &disk,
+        Side::Left,
+        FIRST,
+        b"XbcdeYZ",
+        b"\xa5bcde\xa5\xa5",
+    )?;
+    disk.sync(Side::Left)?;
+    images_are(
+        &rt,
+        alloc,
+        &disk,
+        Side::Left,
+        b"XbcdeYZ",
+        b"XbcdeYZ",
+        b"XbcdeYZ",
+    )
 }
 
 #[test]
