@@ -1,0 +1,55 @@
+// Standard output.
+ghost use Rattle.std.specs.Prelude.{◌≤◌, length};
+
+use crate::faults::Faults;
+use disk_model::{Sink, SinkFault};
+use std::io;
+use std::io::{ErrorKind, Write};
+
+/// Standard output.
+#[derive(Drop)]
+pub struct PrintSink<'a, R> {
+    rt: &'a R,
+    faults: Faults,
+}
+
+impl<'a, R: Print> PrintSink<'a, R> {
+    pub fn new(rt: &'a R) -> PrintSink<'a, R> {
+        PrintSink {
+            rt,
+            faults: Faults::new(),
+        }
+    }
+}
+
+/// Prints the whole piece. Where nothing of what is left is taken, that is an error.
+fn print_whole<R: Print>(rt: &R, piece: &[u8]) -> io::Result<()> {
+    let mut out = io::writer(rt);
+    let mut done = 0;
+    while done < piece.len() {
+        let put = out.write(&piece[done..])?;
+        if put == 0 {
+            return Err(ErrorKind::WriteZero.into());
+        }
+        done += put;
+    }
+    Ok(())
+}
+
+impl<R: Print> Sink for PrintSink<'_, R> {
+    ghost use Rattle.std.specs.Prelude.{[]};
+
+    ghost tells = { ⊥ };
+
+    ghost written = { λ _. [] };
+
+    ghost faults = { λ sink. sink.faults.count };
+
+    fn write(&mut self, piece: &[u8]) -> Result<(), SinkFault> {
+        let answer = print_whole(self.rt, piece);
+        match self.faults.note(answer) {
+            Ok(()) => Ok(()),
+            Err(_) => Err(SinkFault::Failed),
+        }
+    }
+}
