@@ -1,0 +1,2 @@
+//! The lexemes of a pipeline's text: what its tokens are to the grammar.
+#![tactic(auto)]
