@@ -3,20 +3,8 @@ use Rattle.std.proofs.Common.{◌≡◌, ℕ, ◌+◌, ◌≤◌, ◌<◌, Bool,
 use Rattle.std.proofs.lemmas.List.{append-nil, length-append, length-drop, drop_all}
 use Rattle.std.specs.Prelude.{IfOk}
 use Rattle.segment_rows.specs.Exact.{IsBytes, IsExact, IsSpelling, Spells, StandsAt, Finds}
-use Rattle.segment_rows.specs.FieldLaws.{IsBytes-drop, some_is}
+use Rattle.segment_rows.specs.FieldLaws.{IsBytes-drop, some_is, one_reading, whole_law}
 use Rattle.segment_rows.specs.Reading.{Reads}
-
--- what is read in two ways is one
-pub one_reading : {A : Type 0} {s : A → List ℕ} {F : A → Type 0} {r : List ℕ → Option (A × List ℕ)} → IsExact s F r → (a : A) (x : List ℕ) (found : Option (A × List ℕ)) (bytes : List ℕ) → F a → bytes ≡ s a ++ x → r bytes ≡ found → found ≡ Some (a, x)
-one_reading {A} {s} {F} {r} exact a x found bytes is e read = sym read ∙ ap r e ∙ exact.again a x is
-
-pub prefix_law : {A : Type 0} {s : A → List ℕ} {F : A → Type 0} {r : List ℕ → Option (A × List ℕ)} → IsExact s F r → (a b : A) (x y : List ℕ) → F a → F b → s a ++ x ≡ s b ++ y → (a ≡ b) × (x ≡ y)
-prefix_law {A} {s} {F} {r} exact a b x y is js e =
-    let same : (a, x) ≡ (b, y) = some_is (a, x) (b, y) (sym (exact.again a x is) ∙ ap r e ∙ exact.again b y js) in
-    (ap (λ (p : A × List ℕ). p.0) same, ap (λ (p : A × List ℕ). p.1) same)
-
-pub whole_law : {A : Type 0} {s : A → List ℕ} {F : A → Type 0} {r : List ℕ → Option (A × List ℕ)} → IsExact s F r → (a b : A) → F a → F b → s a ≡ s b → a ≡ b
-whole_law {A} {s} {F} {r} exact a b is js e = (prefix_law exact a b [] [] is js (ap (λ (t : List ℕ). t ++ []) e)).0
 
 -- ---- at a place
 

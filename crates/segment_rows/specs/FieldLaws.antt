@@ -4,7 +4,7 @@ use Rattle.std.specs.Int.{Width, w32, w64, byte_len, from_be_bytes, to_be_bytes}
 use Rattle.std.specs.Str.{is_utf8}
 use Rattle.std.specs.List.{flat_map, AllByRecursion}
 use Rattle.std.proofs.lemmas.Bool.{cases_lt, ltb-false, le-ltb, eqb-true}
-use Rattle.std.proofs.lemmas.List.{take_at, drop_at, take-append-drop, length-append, length-take, get_or-drop, get_or-take, get_or_past}
+use Rattle.std.proofs.lemmas.List.{append-nil, take_at, drop_at, take-append-drop, length-append, length-take, get_or-drop, get_or-take, get_or_past}
 use Rattle.std.proofs.lemmas.Nat.{be_bytes_4, be_bytes_8, from_be_bytes-to_be_bytes_4, from_be_bytes-to_be_bytes_8}
 use Rattle.segment_rows.specs.Exact.{IsBytes, IsExact}
 use Rattle.std.specs.Prelude.{⊤}
@@ -42,6 +42,20 @@ some_is x y e = cc
 -- what stands behind a front is made of bytes too
 pub IsBytes-behind : (front rest bytes : List ℕ) → IsBytes bytes → bytes ≡ front ++ rest → IsBytes rest
 IsBytes-behind front rest bytes are e = subst IsBytes (ap (drop (length front)) e ∙ drop_at front rest (length front) refl) (IsBytes-drop (length front) bytes are)
+
+-- ---- what an exact reading says
+
+-- what is read in two ways is one
+pub one_reading : {A : Type 0} {s : A → List ℕ} {F : A → Type 0} {r : List ℕ → Option (A × List ℕ)} → IsExact s F r → (a : A) (x : List ℕ) (found : Option (A × List ℕ)) (bytes : List ℕ) → F a → bytes ≡ s a ++ x → r bytes ≡ found → found ≡ Some (a, x)
+one_reading {A} {s} {F} {r} exact a x found bytes is e read = sym read ∙ ap r e ∙ exact.again a x is
+
+pub prefix_law : {A : Type 0} {s : A → List ℕ} {F : A → Type 0} {r : List ℕ → Option (A × List ℕ)} → IsExact s F r → (a b : A) (x y : List ℕ) → F a → F b → s a ++ x ≡ s b ++ y → (a ≡ b) × (x ≡ y)
+prefix_law {A} {s} {F} {r} exact a b x y is js e =
+    let same : (a, x) ≡ (b, y) = some_is (a, x) (b, y) (sym (exact.again a x is) ∙ ap r e ∙ exact.again b y js) in
+    (ap (λ (p : A × List ℕ). p.0) same, ap (λ (p : A × List ℕ). p.1) same)
+
+pub whole_law : {A : Type 0} {s : A → List ℕ} {F : A → Type 0} {r : List ℕ → Option (A × List ℕ)} → IsExact s F r → (a b : A) → F a → F b → s a ≡ s b → a ≡ b
+whole_law {A} {s} {F} {r} exact a b is js e = (prefix_law exact a b [] [] is js (ap (λ (t : List ℕ). t ++ []) e)).0
 
 -- ---- numbers
 

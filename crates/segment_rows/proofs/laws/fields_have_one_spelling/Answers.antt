@@ -1,4 +1,4 @@
-use Rattle.segment_rows.proofs.WholeLemmas.{prefix_law}
+use Rattle.segment_rows.specs.FieldLaws.{prefix_law}
 use Rattle.segment_rows.proofs.laws.fields_have_one_spelling.Goals as goal
 
 pub returns : goal.returns

@@ -1,5 +1,5 @@
 use Rattle.segment_rows.specs.ValueLaws.{rows_exact}
-use Rattle.segment_rows.proofs.WholeLemmas.{whole_law}
+use Rattle.segment_rows.specs.FieldLaws.{whole_law}
 use Rattle.segment_rows.proofs.laws.rows_have_one_spelling.Goals as goal
 
 pub returns : goal.returns
