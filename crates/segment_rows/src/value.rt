@@ -27,13 +27,13 @@ impl Field for Value {
             Value::Null => Ok(out.push(0)?),
             Value::Bool(false) => Ok(out.push(1)?),
             Value::Bool(true) => Ok(out.push(2)?),
-            Value::Int(number) => {
+            Value::Int(int) => {
                 out.push(3)?;
-                out.extend_from_slice(&number.to_be_bytes())
+                out.extend_from_slice(&int.to_be_bytes())
             }
-            Value::Big(number) => {
+            Value::Big(big) => {
                 out.push(4)?;
-                out.extend_from_slice(&number.to_be_bytes())
+                out.extend_from_slice(&big.to_be_bytes())
             }
             Value::Str(text) => {
                 out.push(5)?;
