@@ -22,6 +22,7 @@ impl Files {
     ghost use Rattle.disk_model.specs.Disk.{TwoFiles, file};
     ghost use Rattle.disk_model.specs.Files.{files_now, files_room, with_file, written_over};
 
+    /// Copies of these two, with memory for so many bytes in each.
     pub fn new(alloc: Global, left: &[u8], right: &[u8], room: u64) -> Result<Files, AllocError>
         requires small { room ≤ 2 ^ 40 }
         requires left { length left.now ≤ room }
@@ -36,6 +37,7 @@ impl Files {
         })
     }
 
+    /// How long each may get.
     pub fn room(&self) -> u64
         ensures room { result ≡ files_room self.now }
         ensures bound { result ≤ 2 ^ 40 }
@@ -43,6 +45,7 @@ impl Files {
         self.room
     }
 
+    /// How long one is.
     pub fn len(&self, side: Side) -> u64
         ensures length { result ≡ length (file side (files_now self.now)) }
         ensures bound { result ≤ files_room self.now }
