@@ -9,10 +9,11 @@ ghost use Rattle.landing_core.specs.Places.{AreAboveZero, NoneFalls, place_of, p
 ghost use Rattle.landing_core.specs.Ends.{EndsBy, IsNoShrinkage};
 
 use crate::ends::LineEnd;
+use crate::heads::{Form, find_head};
 use crate::landing::{Landing, Listed, Listing};
 use crate::lines::{FreshLines, Reading};
 use crate::places::{find_place, move_place};
-use crate::reading::{Form, find_head, read_lines};
+use crate::reading::read_lines;
 use std::alloc::{AllocError, Global};
 use value_core::{FilePlace, FilePlaces, Format, Line, ListOf};
 
@@ -89,7 +90,6 @@ fn take_file<L: Landing>(
 ) -> Result<(), LineEnd>
     requires within { place_of places.now listed.now.file ≤ listed.now.size }
     requires there { L.tells → listed.now.size ≤ length (bytes_of dir.now listed.now.file (L.present landing.old)) }
-    requires json { form.format ≡ Format.Json }
     ensures heads { L.tells → OnOk result (fresh.new.heads ≡ fresh.old.heads ++ head_text (head_in form.format form.header dir.now (L.present landing.old) listed.now) ∷ []) }
     ensures lines { L.tells → OnOk result (fresh.new.lines ≡ fresh.old.lines ++ new_rows form.format form.header dir.now (L.present landing.old) places.now number listed.now) }
     ensures places { L.tells → OnOk result (fresh.new.places.items ≡ moved listed.now.file (reach_of dir.now (L.present landing.old) places.now listed.now) fresh.old.places.items) }
@@ -140,7 +140,6 @@ pub fn fresh_lines<L: Landing>(
     requires above_zero { AreAboveZero cursor.now }
     requires listed { AreAscending (listed_names listing.now) }
     requires there { L.tells → AreThere dir.now (L.present landing.old) listing.now }
-    requires json { format ≡ Format.Json }
 
     ensures heads { L.tells → IfOk result (λ fresh. fresh.heads ≡ heads_of format header dir.now (L.present landing.old) listing.now) }
     ensures lines { L.tells → IfOk result (λ fresh. fresh.lines ≡ new_lines format header dir.now (L.present landing.old) cursor.now 0 listing.now) }
@@ -185,7 +184,6 @@ fn read_files<L: Landing>(
     requires above_zero { AreAboveZero cursor.now }
     requires there { L.tells → AreThere dir.now (L.present landing.old) listing.now }
     requires unshrunk { shrunk cursor.now listing.now ≡ None }
-    requires json { form.format ≡ Format.Json }
     ensures heads { L.tells → IfOk result (λ fresh. fresh.heads ≡ heads_of form.format form.header dir.now (L.present landing.old) listing.now) }
     ensures lines { L.tells → IfOk result (λ fresh. fresh.lines ≡ new_lines form.format form.header dir.now (L.present landing.old) cursor.now 0 listing.now) }
     ensures cursor { L.tells → IfOk result (λ fresh. fresh.cursor ≡ reach dir.now (L.present landing.old) cursor.now listing.now) }

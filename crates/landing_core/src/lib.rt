@@ -3,6 +3,7 @@
 
 mod ends;
 mod fresh;
+mod heads;
 mod landing;
 mod lines;
 mod mem_landing;

@@ -58,7 +58,7 @@ fn is_spaces(text: &[u8]) -> bool
 }
 
 /// Whether a line is blank: in CSV an empty one, in JSON one of spaces and tabs.
-fn is_blank_line(format: Format, text: &[u8]) -> bool
+pub(crate) fn is_blank_line(format: Format, text: &[u8]) -> bool
     ensures { result ≡ is_blank format text.now }
 {
     match format {
@@ -68,7 +68,7 @@ fn is_blank_line(format: Format, text: &[u8]) -> bool
 }
 
 /// The text of a line: without a byte order mark and without one CR at its end.
-fn line_text(start: u64, bytes: &[u8]) -> &[u8]
+pub(crate) fn line_text(start: u64, bytes: &[u8]) -> &[u8]
     ensures { let line : CompleteLine = record { start = start; bytes = bytes.now } in result.now ≡ text_of line }
 {
     if is_marked(start, bytes) {
@@ -79,7 +79,7 @@ fn line_text(start: u64, bytes: &[u8]) -> &[u8]
 }
 
 /// The place of a line's first byte.
-fn line_place(start: u64, bytes: &[u8]) -> u64
+pub(crate) fn line_place(start: u64, bytes: &[u8]) -> u64
     ensures { let line : CompleteLine = record { start = start; bytes = bytes.now } in result ≡ first_byte line }
 {
     if is_marked(start, bytes) { 3 } else { start }

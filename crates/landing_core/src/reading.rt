@@ -1,56 +1,17 @@
-// Reading one listed file in pieces.
+// Reading the lines of one listed file in pieces.
 ghost use Rattle.std.specs.Prelude.{◌≡◌, ◌+◌, ◌≤◌, ◌++◌, [], length, slice_range, OnOk, IfOk, IfErr};
 ghost use Rattle.disk_model.specs.Faults.{HasCauseOf};
 ghost use Rattle.landing_core.specs.Folders.{bytes_of};
-ghost use Rattle.landing_core.specs.Fresh.{head_in};
-ghost use Rattle.landing_core.specs.Lines.{complete_len, head_text, head_place, rows_from};
+ghost use Rattle.landing_core.specs.Lines.{complete_len, rows_from};
 ghost use Rattle.landing_core.specs.Ends.{IsNoShrinkage};
 
 use crate::ends::LineEnd;
 use crate::landing::{Landing, Listed};
 use crate::lines::{Begun, FreshLines, Reading, push_piece};
 use std::alloc::Global;
-use value_core::{Format, Line, ListOf};
 
 /// How many bytes of a file are read at once.
 const PIECE: u64 = 1 << 16;
-
-/// How the lines of files are read: in which format, and whether CSV files have a header.
-#[derive(Clone, Copy)]
-pub(crate) struct Form {
-    pub format: Format,
-    pub header: bool,
-}
-
-/// The head of a file: where it begins, if the file has one, and its text, which is empty if not.
-#[derive(Drop)]
-pub(crate) struct Head {
-    pub place: Option<u64>,
-    pub text: Line,
-}
-
-/// The head of a listed file.
-pub(crate) fn find_head<L: Landing>(
-    alloc: Global,
-    landing: &mut L,
-    dir: &str,
-    form: Form,
-    listed: &Listed,
-) -> Result<Head, LineEnd>
-    requires there { L.tells → listed.now.size ≤ length (bytes_of dir.now listed.now.file (L.present landing.old)) }
-    requires json { form.format ≡ Format.Json }
-    ensures place { L.tells → IfOk result (λ head. head.place ≡ head_place (head_in form.format form.header dir.now (L.present landing.old) listed.now)) }
-    ensures text { L.tells → IfOk result (λ head. head.text ≡ head_text (head_in form.format form.header dir.now (L.present landing.old) listed.now)) }
-    ensures present { L.tells → L.present landing.new ≡ L.present landing.old }
-    ensures ever { L.tells → L.ever landing.new ≡ L.ever landing.old }
-    ensures err { IfErr result IsNoShrinkage }
-    ensures cause { HasCauseOf LineEnd.Failed (L.faults landing.old) (L.faults landing.new) result }
-{
-    Ok(Head {
-        place: None,
-        text: ListOf::new(alloc),
-    })
-}
 
 /// Adds the lines of a listed file that end behind its place, and says where the last of them ends.
 pub(crate) fn read_lines<L: Landing>(
