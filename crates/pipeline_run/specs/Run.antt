@@ -1,0 +1,130 @@
+-- What a run does.
+use Rattle.std.specs.Prelude.{◌≡◌, ◌≢◌, ◌⊎◌, ℕ, ◌≤◌, List, [], ◌∷◌, ◌++◌, take, Bool, true, false, Option, Some, None}
+use Rattle.disk_model.specs.Faults.{Rose}
+use Rattle.landing_core.specs.declared.landing.LandingFile.{LandingFile}
+use Rattle.pipeline_run.specs.declared.command.Command.{Command}
+use Rattle.pipeline_run.specs.declared.command.Command.TheVariants as command
+use Rattle.pipeline_run.specs.declared.outcome.Outcome.{Outcome}
+use Rattle.pipeline_run.specs.declared.outcome.Outcome.TheVariants.{Usage, NotSupported, TextFailed, DiskFailed, LandingFailed}
+use Rattle.pipeline_run.specs.declared.outcome.Status.{Status}
+use Rattle.pipeline_run.specs.declared.outcome.Status.TheVariants as status
+use Rattle.pipeline_run.specs.Pipeline.{is_accepted, text_limit}
+use Rattle.pipeline_run.specs.Report.{printed, status_of}
+use Rattle.pipeline_run.specs.Update.{Updates}
+
+-- what stays as it is during a run: how long the store's file may get, and the landing files
+pub record Around : Type 0 where
+  pub room : ℕ
+  pub landing : List LandingFile
+
+-- how often each device has failed that commands use
+pub record Counts : Type 0 where
+  pub disk : ℕ
+  pub landing : ℕ
+  pub sink : ℕ
+
+-- no count falls
+pub record NoneFalls (old new : Counts) : Type 0 where
+  pub disk : old.disk ≤ new.disk
+  pub landing : old.landing ≤ new.landing
+  pub sink : old.sink ≤ new.sink
+
+-- what stands before and after each command: the bytes of the store's file, what was printed, and the failures so far
+pub record Standing : Type 0 where
+  pub file : List ℕ
+  pub printed : List ℕ
+  pub faults : Counts
+
+-- ---- one line
+
+-- the outcome was told: its line was printed whole, and the answer is its own
+pub record IsTold (outcome : Outcome) (answer : Status) (old new : Standing) : Type 0 where
+  pub status : answer ≡ status_of outcome
+  pub line : new.printed ≡ old.printed ++ printed outcome
+
+-- it couldn't be told: the sink failed or memory ran out, and a front of the line was printed
+pub record IsCut (outcome : Outcome) (answer : Status) (old new : Standing) : Type 0 where
+  pub status : ((answer ≡ status.Sink) × Rose old.faults.sink new.faults.sink) ⊎ (answer ≡ status.Memory)
+  pub line : (n : ℕ) × (new.printed ≡ old.printed ++ take n (printed outcome))
+
+abbrev pub Tells : Outcome → Status → Standing → Standing → Type 0
+Tells outcome answer old new = IsTold outcome answer old new ⊎ IsCut outcome answer old new
+
+-- memory ran out before there was an outcome
+pub record RunsOut (answer : Status) (old new : Standing) : Type 0 where
+  pub status : answer ≡ status.Memory
+  pub file : new.file ≡ old.file
+  pub printed : new.printed ≡ old.printed
+  pub later : NoneFalls old.faults new.faults
+
+-- ---- one command
+
+-- when a command comes to an outcome
+abbrev pub Comes : Command → Around → Outcome → Standing → Standing → Type 0
+Comes command.Update around outcome old new = Updates (record { file = old.file; room = around.room; landing = around.landing }) outcome new.file
+
+-- an outcome that blames a device comes only where that device's count rose
+abbrev pub Blames : Counts → Counts → Outcome → Type 0
+Blames before now DiskFailed = Rose before.disk now.disk
+Blames before now LandingFailed = Rose before.landing now.landing
+Blames before now _ = Unit {0}
+
+-- a command came to this outcome
+pub record Does (command : Command) (around : Around) (answer : Status) (old new : Standing) (outcome : Outcome) : Type 0 where
+  pub comes : Comes command around outcome old new
+  pub blames : Blames old.faults new.faults outcome
+  pub tells : Tells outcome answer old new
+  pub later : NoneFalls old.faults new.faults
+
+abbrev pub Executes : Command → Around → Status → Standing → Standing → Type 0
+Executes command around answer old new = ((outcome : Outcome) × Does command around answer old new outcome) ⊎ RunsOut answer old new
+
+-- ---- commands in order: the first answer other than Ok ends them
+
+abbrev pub Runs : Around → List Command → Status → Standing → Standing → Type 0
+Runs around [] answer old new = (answer ≡ status.Ok) × (new ≡ old)
+Runs around (first ∷ others) answer old new =
+    (mid : Standing) × (given : Status) × Executes first around given old mid
+    × (((given ≡ status.Ok) × Runs around others answer mid new) ⊎ ((given ≢ status.Ok) × (answer ≡ given) × (new ≡ mid)))
+
+-- ---- a whole run
+
+-- no command was reached: the file stays
+pub record Refuses (outcome : Outcome) (answer : Status) (old new : Standing) : Type 0 where
+  pub file : new.file ≡ old.file
+  pub tells : Tells outcome answer old new
+
+abbrev pub RunsBy : Bool → List Command → Around → Status → Standing → Standing → Type 0
+RunsBy true commands around answer old new = Runs around commands answer old new
+RunsBy false commands around answer old new = Refuses NotSupported answer old new
+
+-- The words come first, and then the text, of which the source may have failed; then the commands.
+abbrev pub Ran : Option (List Command) → List ℕ → Type 0 → Around → Status → Standing → Standing → Type 0
+Ran None text failed around answer old new = Refuses Usage answer old new ⊎ RunsOut answer old new
+Ran (Some commands) text failed around answer old new =
+    (failed × Refuses TextFailed answer old new) ⊎ RunsOut answer old new
+    ⊎ RunsBy (is_accepted (take text_limit text)) commands around answer old new
+
+-- ---- answers over any devices
+
+-- the status of the outcome, or that it couldn't be told
+abbrev pub IsTelling : Outcome → Status → Type 0
+IsTelling outcome status.Sink = Unit {0}
+IsTelling outcome status.Memory = Unit {0}
+IsTelling outcome answer = answer ≡ status_of outcome
+
+-- what commands answer
+abbrev pub IsOfCommands : Status → Type 0
+IsOfCommands status.Usage = ⊥
+IsOfCommands status.Pipeline = ⊥
+IsOfCommands status.Text = ⊥
+IsOfCommands _ = Unit {0}
+
+-- an answer is Usage exactly where the words are of no form, but for those that say that the line couldn't be printed
+abbrev pub AnswersUsage : Option (List Command) → Status → Type 0
+AnswersUsage None status.Usage = Unit {0}
+AnswersUsage None status.Sink = Unit {0}
+AnswersUsage None status.Memory = Unit {0}
+AnswersUsage None _ = ⊥
+AnswersUsage (Some commands) status.Usage = ⊥
+AnswersUsage (Some commands) _ = Unit {0}

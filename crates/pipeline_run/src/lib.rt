@@ -1,0 +1,21 @@
+//! One table from the JSON lines of a growing folder, kept in one file.
+#![tactic(auto)]
+
+mod command;
+mod in_memory;
+mod json_line;
+mod laws;
+mod outcome;
+mod pipeline;
+mod program;
+mod report;
+mod update;
+
+pub use command::Command;
+pub use in_memory::run_in_memory;
+pub use laws::{a_run_has_one_end, an_update_succeeds_where_nothing_is_refused};
+pub use outcome::{Outcome, Status};
+pub use program::run;
+
+#[cfg(test)]
+mod tests;
