@@ -1,5 +1,5 @@
 -- What a payload's parts say of the whole.
-use Rattle.std.proofs.Common.{◌≡◌, ℕ, List, [], ◌∷◌, ◌++◌, Bool, true, false, Option, Some, None, refl, sym, ap, subst, ◌∙◌}
+use Rattle.std.proofs.Common.{◌≡◌, ℕ, List, ◌∷◌, Bool, true, false, None, refl, sym, ap, subst, ◌∙◌}
 use Rattle.segment_rows.specs.Exact.{IsSpelling, Spells}
 use Rattle.segment_rows.specs.FieldLaws.{whole_law, list_exact}
 use Rattle.segment_rows.specs.Ranges.{IsList}
@@ -8,7 +8,7 @@ use Rattle.commit_records.specs.declared.definition.Definition.{Definition}
 use Rattle.commit_records.specs.declared.payload.Payload.{Payload}
 use Rattle.commit_records.specs.declared.payload.Payload.TheVariants as payload
 use Rattle.commit_records.specs.declared.take.Take.{Take}
-use Rattle.commit_records.specs.Forms.{all_fit, AreDefinitions, IsBatch}
+use Rattle.commit_records.specs.Forms.{all_fit, IsBatch}
 use Rattle.commit_records.specs.PartLaws.{definition_exact, take_exact}
 use Rattle.commit_records.specs.Payloads.{fresh_byte, spelled_payload, HasSpelling}
 use Rattle.commit_records.specs.Ranges.{IsDefinition, IsTake}

@@ -1,5 +1,5 @@
 -- The reading of definitions and batches is exact.
-use Rattle.std.proofs.Common.{◌≡◌, ℕ, List, [], ◌∷◌, ◌++◌, Option, Some, None, refl, sym, ap, subst, ◌∙◌, inl, inr}
+use Rattle.std.proofs.Common.{◌≡◌, ℕ, List, [], ◌∷◌, ◌++◌, Some, refl, sym, ap, subst, ◌∙◌, inl, inr}
 use Rattle.std.specs.Prelude.{⊤}
 use Rattle.segment_rows.specs.Exact.{IsBytes, IsExact}
 use Rattle.segment_rows.specs.FieldLaws.{bind_some, some_is, number_exact, text_exact, list_exact, both_exact, made_exact, coded_exact, byte_taken, byte_again, tag_case, part_taken, IsBytes-behind}

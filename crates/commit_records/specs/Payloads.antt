@@ -1,8 +1,7 @@
 -- The bytes of a payload, and which payloads have a spelling.
-use Rattle.std.specs.Prelude.{◌≡◌, ℕ, List, [], ◌∷◌, Bool, true, false}
+use Rattle.std.specs.Prelude.{ℕ, List, [], ◌∷◌, Bool, true, false}
 use Rattle.segment_rows.specs.Ranges.{IsList}
 use Rattle.segment_rows.specs.Spelling.{spelled_list}
-use Rattle.commit_records.specs.declared.definition.Definition.{Definition}
 use Rattle.commit_records.specs.declared.payload.Payload.{Payload}
 use Rattle.commit_records.specs.declared.payload.Payload.TheVariants.{Define, Take, Refresh, Reset, Base}
 use Rattle.commit_records.specs.Forms.{AreDefinitions, IsBatch}

@@ -1,5 +1,5 @@
 -- Which definitions and batches the types may hold: numbers have so many bits, and texts are UTF-8.
-use Rattle.std.specs.Prelude.{List, ⊤}
+use Rattle.std.specs.Prelude.{⊤}
 use Rattle.segment_rows.specs.Ranges.{IsNumber, IsText, IsList, IsColumn, IsCursor, IsChange, IsTally, IsEvent}
 use Rattle.commit_records.specs.declared.definition.StoredOrigin.{StoredOrigin}
 use Rattle.commit_records.specs.declared.definition.StoredOrigin.TheVariants.{Folder, Table}

@@ -1,6 +1,6 @@
 -- How definitions and batches are spelled in bytes.
 use Rattle.std.specs.Prelude.{ℕ, List, [], ◌∷◌, ◌++◌}
-use Rattle.segment_rows.specs.Spelling.{spelled_byte, spelled_number, spelled_text, spelled_list, spelled_kind, spelled_column, spelled_cursor, spelled_change, spelled_tally, spelled_event}
+use Rattle.segment_rows.specs.Spelling.{spelled_number, spelled_text, spelled_list, spelled_kind, spelled_column, spelled_cursor, spelled_change, spelled_tally, spelled_event}
 use Rattle.commit_records.specs.declared.definition.StoredBody.{StoredBody}
 use Rattle.commit_records.specs.declared.definition.StoredBody.TheVariants.{Append, Scd1, Scd2, View}
 use Rattle.commit_records.specs.declared.definition.StoredAction.{StoredAction}

@@ -122,7 +122,13 @@ fn a_batch_has_its_bytes(rt: HostRuntime) -> Result<(), Fail> {
         return Err("it is a batch".into());
     };
     assert!(rt; again.table.as_str() == "t");
-    assert!(rt; again.change.added.as_slice()[0].as_slice()[0] == Value::Big(5));
+    let row = again
+        .change
+        .added
+        .as_slice()
+        .first()
+        .ok_or("one row is added")?;
+    assert!(rt; row.as_slice().first() == Some(&Value::Big(5)));
     Ok(())
 }
 
@@ -131,7 +137,9 @@ fn what_is_malformed_is_no_spelling(rt: HostRuntime) -> Result<(), Fail> {
     let alloc = rt.alloc();
     let sound = batch(alloc, &PLACE, &[4], &[5, 5])?;
     assert!(rt; read(alloc, &sound)?.is_some());
-    assert!(rt; read(alloc, &sound[..sound.len() - 1])?.is_none());
+    let mut short = sound.clone()?;
+    short.pop();
+    assert!(rt; read(alloc, &short)?.is_none());
     assert!(rt; read(alloc, &batch(alloc, &AT_ZERO, &[4], &[5])?)?.is_none());
     assert!(rt; read(alloc, &batch(alloc, &TWICE, &[4], &[5])?)?.is_none());
     assert!(rt; read(alloc, &batch(alloc, &PLACE, &[5], &[5])?)?.is_none());
@@ -140,7 +148,9 @@ fn what_is_malformed_is_no_spelling(rt: HostRuntime) -> Result<(), Fail> {
     let wrong = [(0, 2), (1, 3), (10, 0x80), (21, 0x80)];
     for (at, byte) in &wrong {
         let mut bytes = sound.clone()?;
-        bytes[*at] = *byte;
+        if let Some(place) = bytes.get_mut(*at) {
+            *place = *byte;
+        }
         assert!(rt; read(alloc, &bytes)?.is_none());
     }
     let mut long = sound.clone()?;

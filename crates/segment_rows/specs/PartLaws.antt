@@ -1,5 +1,5 @@
 -- The reading of what commits carry beside rows is exact.
-use Rattle.std.proofs.Common.{◌≡◌, ℕ, Bool, true, false, cond, eqb, List, [], ◌∷◌, ◌++◌, Option, Some, None, refl, sym, ap, subst, ◌∙◌, inl, inr}
+use Rattle.std.proofs.Common.{◌≡◌, ℕ, List, [], ◌∷◌, ◌++◌, Some, refl, sym, ap, subst, ◌∙◌, inl, inr}
 use Rattle.std.specs.Prelude.{⊤}
 use Rattle.value_core.specs.declared.value.Kind.{Kind}
 use Rattle.value_core.specs.declared.value.Kind.TheVariants as kind
@@ -15,8 +15,8 @@ use Rattle.value_core.specs.declared.cursor.Cursor.TheVariants.{Files, At, Never
 use Rattle.segment_rows.specs.Exact.{IsBytes, IsExact}
 use Rattle.segment_rows.specs.FieldLaws.{bind_some, some_is, number_exact, text_exact, list_exact, both_exact, made_exact, coded_exact, byte_taken, byte_again, tag_case, part_taken, IsBytes-behind}
 use Rattle.segment_rows.specs.Ranges.{IsEvent, IsColumn, IsPlace, IsCursor, IsChange, IsTally}
-use Rattle.segment_rows.specs.Reading.{◌>>=◌, number_at, made_at, list_at, byte_at, coded_at, tagged_at, event_kind_of, event_at, kind_of, column_at, place_at, cursor_by, cursor_at, change_at, tally_at}
-use Rattle.segment_rows.specs.Spelling.{spelled_number, spelled_list, event_kind_byte, spelled_event_kind, spelled_event, kind_byte, spelled_kind, spelled_column, spelled_place, spelled_cursor, spelled_change, spelled_tally}
+use Rattle.segment_rows.specs.Reading.{byte_at, coded_at, tagged_at, event_kind_of, event_at, kind_of, column_at, place_at, cursor_by, cursor_at, change_at, tally_at}
+use Rattle.segment_rows.specs.Spelling.{event_kind_byte, spelled_event_kind, spelled_event, kind_byte, spelled_kind, spelled_column, spelled_place, spelled_cursor, spelled_change, spelled_tally}
 use Rattle.segment_rows.specs.ValueLaws.{row_exact, rows_exact}
 
 event_kind_forth : (kind : EventKind) → event_kind_of (event_kind_byte kind) ≡ Some kind

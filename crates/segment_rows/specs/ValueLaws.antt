@@ -1,18 +1,17 @@
 -- The reading of values, rows and events is exact.
-use Rattle.std.proofs.Common.{◌≡◌, ℕ, ℤ, ◌^◌, ◌<◌, Bool, true, false, cond, eqb, List, [], ◌∷◌, ◌++◌, Option, Some, None, refl, sym, ap, subst, ◌∙◌, inl, inr}
-use Rattle.std.specs.Prelude.{⊤, FitsSigned}
+use Rattle.std.proofs.Common.{◌≡◌, ℕ, ℤ, ◌^◌, ◌<◌, true, false, List, [], ◌∷◌, ◌++◌, Some, refl, sym, ap, subst, ◌∙◌, inl, inr}
+use Rattle.std.specs.Prelude.{FitsSigned}
 use Rattle.std.specs.Int.{Width, w32, w64, cast_signed, cast_unsigned}
 use mir.Val.{bits}
 use Rattle.std.proofs.lemmas.Int.{to_z-of_z, of_z-to_z}
 use Rattle.std.proofs.Math.Facts.{Fits-of_z, sfits_to_z}
 use Rattle.value_core.specs.declared.value.Value.{Value}
 use Rattle.value_core.specs.declared.value.Value.TheVariants.{Null, Bool as Truth, Int, Big, Str}
-use Rattle.value_core.specs.Order.{Row}
 use Rattle.segment_rows.specs.Exact.{IsBytes, IsExact}
 use Rattle.segment_rows.specs.FieldLaws.{bind_some, some_is, number_exact, half_exact, text_exact, list_exact, byte_taken, byte_again, tag_case, part_taken, IsBytes-behind}
 use Rattle.segment_rows.specs.Ranges.{IsValue, IsRow, AreRows}
-use Rattle.segment_rows.specs.Reading.{◌>>=◌, half_at, number_at, text_at, made_at, byte_at, tagged_at, value_by, value_at, row_at, rows_at}
-use Rattle.segment_rows.specs.Spelling.{spelled_half, spelled_number, spelled_text, spelled_value, spelled_row, spelled_rows}
+use Rattle.segment_rows.specs.Reading.{half_at, number_at, text_at, made_at, byte_at, tagged_at, value_by, value_at, row_at, rows_at}
+use Rattle.segment_rows.specs.Spelling.{spelled_half, spelled_number, spelled_value, spelled_row, spelled_rows}
 
 in_signed : (w : Width) (n : ℕ) → n < 2 ^ bits w → FitsSigned w (cast_signed w n)
 in_signed w n lt = sfits_to_z {w = w} {n = n} (record { fits = lt })

@@ -53,8 +53,10 @@ fn fields_are_read_where_they_stand(rt: HostRuntime) -> Result<(), Fail> {
         columns: ListOf::new(alloc),
     };
     put_event(&mut out, &event)?;
-    assert!(rt; out.as_slice()[..17] == [0, 0, 0, 0, 0, 0, 1, 2, 0, 0, 0, 0, 0, 0, 0, 1, 116]);
-    assert!(rt; out[17] == 2);
+    assert!(rt;
+        out.as_slice()
+            .starts_with(&[0, 0, 0, 0, 0, 0, 1, 2, 0, 0, 0, 0, 0, 0, 0, 1, 116, 2])
+    );
     assert!(rt; take_number(&out, 0) == Some((258, 8)));
     let (text, end) = take_text(alloc, &out, 8)?.ok_or("a text stands there")?;
     assert!(rt; text.as_str() == "t");

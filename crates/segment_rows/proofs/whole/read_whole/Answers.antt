@@ -1,4 +1,4 @@
-use Rattle.std.proofs.Common.{◌≡◌, ◌<◌, ◌≤◌, length, arith}
+use Rattle.std.proofs.Common.{◌<◌, length, arith}
 use Rattle.segment_rows.proofs.WholeLemmas.{whole_none, whole_short, whole_one}
 use Rattle.segment_rows.proofs.whole.read_whole.Goals as goal
 
