@@ -1,5 +1,5 @@
 // Lists: how many items, and the items.
-ghost use Rattle.std.specs.Prelude.{◌≤◌, ◌≡◌, ◌++◌, length, IfOk, OnOk, vec_len};
+ghost use Rattle.std.specs.Prelude.{◌≤◌, ◌≡◌, ◌++◌, length, IfOk, OnOk};
 ghost use Rattle.std.specs.List.{flat_map, AllByRecursion};
 ghost use Rattle.segment_rows.specs.FieldLaws.{list_exact};
 ghost use Rattle.segment_rows.specs.Ranges.{IsList};

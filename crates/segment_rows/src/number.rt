@@ -36,7 +36,8 @@ fn front_half(bytes: &[u8]) -> Option<u32>
     Some(u32::from_be_bytes([front[0], front[1], front[2], front[3]]))
 }
 
-pub fn take_number(bytes: &[u8], at: usize) -> Option<(u64, usize)>
+/// The number that begins at a place, and the place behind it.
+pub(crate) fn take_number(bytes: &[u8], at: usize) -> Option<(u64, usize)>
     requires { at ≤ length bytes.now }
     ensures { Reads number_at bytes.now at result }
 {
@@ -46,6 +47,7 @@ pub fn take_number(bytes: &[u8], at: usize) -> Option<(u64, usize)>
     }
 }
 
+/// The number of 4 bytes that begins at a place, and the place behind it.
 pub(crate) fn take_half(bytes: &[u8], at: usize) -> Option<(u32, usize)>
     requires { at ≤ length bytes.now }
     ensures { Reads half_at bytes.now at result }
@@ -56,6 +58,7 @@ pub(crate) fn take_half(bytes: &[u8], at: usize) -> Option<(u32, usize)>
     }
 }
 
+/// The byte at a place, and the place behind it.
 #[tactic(auto, unfolding(crate::specs::Reading::byte_at))]
 pub(crate) fn take_byte(bytes: &[u8], at: usize) -> Option<(u8, usize)>
     requires { at ≤ length bytes.now }

@@ -3,7 +3,7 @@ ghost use Rattle.std.specs.Prelude.{◌≡◌, ◌≤◌, ◌++◌, true, false,
 ghost use Rattle.std.specs.Str.{is_utf8};
 ghost use Rattle.segment_rows.specs.FieldLaws.{text_exact};
 ghost use Rattle.segment_rows.specs.Ranges.{IsText};
-ghost use Rattle.segment_rows.specs.Reading.{Reads, text_at};
+ghost use Rattle.segment_rows.specs.Reading.{text_at};
 ghost use Rattle.segment_rows.specs.Spelling.{spelled_text};
 
 use crate::field::Field;
