@@ -61,7 +61,10 @@ fn fill<R: Files<File = File>>(
 ) -> io::Result<()> {
     open(rt, lazy)?;
     match &lazy.file {
-        Some(file) => read_whole(file, at, into),
+        Some(file) => {
+            read_whole(file, at, into)?;
+            Ok(())
+        }
         None => Err(ErrorKind::NotFound.into()),
     }
 }
@@ -69,7 +72,10 @@ fn fill<R: Files<File = File>>(
 fn put<R: Files<File = File>>(rt: &R, lazy: &mut Lazy, at: u64, piece: &[u8]) -> io::Result<()> {
     open(rt, lazy)?;
     match &lazy.file {
-        Some(file) => write_whole(file, at, piece),
+        Some(file) => {
+            write_whole(file, at, piece)?;
+            Ok(())
+        }
         None => Err(ErrorKind::NotFound.into()),
     }
 }

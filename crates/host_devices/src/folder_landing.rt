@@ -122,7 +122,8 @@ fn read_file<R: Files<File = File>>(
     into: &mut [u8],
 ) -> io::Result<()> {
     let file = File::open(rt, path)?;
-    read_whole(&file, at, into)
+    read_whole(&file, at, into)?;
+    Ok(())
 }
 
 impl<R: Files<File = File> + AllocGlobal + Clone + Drop> Landing for FolderLanding<'_, R> {

@@ -13,3 +13,6 @@ pub use file_disk::FileDisk;
 pub use file_source::FileSource;
 pub use folder_landing::FolderLanding;
 pub use print_sink::PrintSink;
+
+#[cfg(test)]
+mod tests;

@@ -1,5 +1,5 @@
 // Standard output.
-ghost use Rattle.std.specs.Prelude.{◌≤◌, length};
+ghost use Rattle.std.specs.Prelude.{◌≡◌, ◌≤◌, length, IfOk};
 
 use crate::faults::Faults;
 use disk_model::{Sink, SinkFault};
@@ -22,8 +22,11 @@ impl<'a, R: Print> PrintSink<'a, R> {
     }
 }
 
-/// Prints the whole piece. Where nothing of what is left is taken, that is an error.
-fn print_whole<R: Print>(rt: &R, piece: &[u8]) -> io::Result<()> {
+/// Prints the whole piece, and says how many bytes that are. Where nothing of what is left is
+/// taken, that is an error.
+fn print_whole<R: Print>(rt: &R, piece: &[u8]) -> io::Result<usize>
+    ensures { IfOk result (λ n. n ≡ length piece.now) }
+{
     let mut out = io::writer(rt);
     let mut done = 0;
     while done < piece.len() {
@@ -33,7 +36,7 @@ fn print_whole<R: Print>(rt: &R, piece: &[u8]) -> io::Result<()> {
         }
         done += put;
     }
-    Ok(())
+    Ok(done)
 }
 
 impl<R: Print> Sink for PrintSink<'_, R> {
@@ -48,7 +51,7 @@ impl<R: Print> Sink for PrintSink<'_, R> {
     fn write(&mut self, piece: &[u8]) -> Result<(), SinkFault> {
         let answer = print_whole(self.rt, piece);
         match self.faults.note(answer) {
-            Ok(()) => Ok(()),
+            Ok(_) => Ok(()),
             Err(_) => Err(SinkFault::Failed),
         }
     }

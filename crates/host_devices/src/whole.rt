@@ -1,5 +1,5 @@
 // Reading and writing whole ranges of a file.
-ghost use Rattle.std.specs.Prelude.{◌≤◌, length};
+ghost use Rattle.std.specs.Prelude.{◌≡◌, ◌≤◌, length, IfOk};
 
 use std::fs::File;
 use std::io;
@@ -14,8 +14,11 @@ fn place_behind(at: u64, done: usize) -> io::Result<u64> {
     }
 }
 
-/// Fills `into` with the bytes at a place. A file that ends before that is an error.
-pub(crate) fn read_whole(file: &File, at: u64, into: &mut [u8]) -> io::Result<()> {
+/// Fills `into` with the bytes at a place, and says how many these are. A file that ends before
+/// that is an error.
+pub(crate) fn read_whole(file: &File, at: u64, into: &mut [u8]) -> io::Result<usize>
+    ensures { IfOk result (λ n. n ≡ length into.old) }
+{
     let mut done = 0;
     while done < into.len() {
         let got = file.read_at(&mut into[done..], place_behind(at, done)?)?;
@@ -24,11 +27,13 @@ pub(crate) fn read_whole(file: &File, at: u64, into: &mut [u8]) -> io::Result<()
         }
         done += got;
     }
-    Ok(())
+    Ok(done)
 }
 
-/// Writes the whole piece at a place.
-pub(crate) fn write_whole(file: &File, at: u64, piece: &[u8]) -> io::Result<()> {
+/// Writes the whole piece at a place, and says how many bytes that are.
+pub(crate) fn write_whole(file: &File, at: u64, piece: &[u8]) -> io::Result<usize>
+    ensures { IfOk result (λ n. n ≡ length piece.now) }
+{
     let mut done = 0;
     while done < piece.len() {
         let put = file.write_at(&piece[done..], place_behind(at, done)?)?;
@@ -37,5 +42,5 @@ pub(crate) fn write_whole(file: &File, at: u64, piece: &[u8]) -> io::Result<()> 
         }
         done += put;
     }
-    Ok(())
+    Ok(done)
 }

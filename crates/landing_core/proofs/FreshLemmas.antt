@@ -1,12 +1,12 @@
 -- One more file of a listing.
-use Rattle.std.proofs.Common.{◌≡◌, ℕ, ◌+◌, ◌<◌, ◌≤◌, List, [], ◌∷◌, ◌++◌, length, get_or, drop, refl, sym, ap, ◌∙◌, append_assoc, None, arith}
+use Rattle.std.proofs.Common.{◌≡◌, ℕ, ◌+◌, ◌<◌, List, ◌∷◌, ◌++◌, length, get_or, drop, sym, ap, ◌∙◌, append_assoc, None, arith}
 use Rattle.std.proofs.lemmas.Bool.Decides.{nat_tests}
 use Rattle.std.proofs.lemmas.Grind.{common_steps}
 use Rattle.std.proofs.lemmas.List.{drop_more}
 use Rattle.value_core.specs.declared.cursor.FilePlace.{FilePlace}
 use Rattle.landing_core.specs.declared.landing.LandingFile.{LandingFile}
 use Rattle.landing_core.specs.declared.landing.Listed.{Listed}
-use Rattle.landing_core.specs.Places.{place_of, moved}
+use Rattle.landing_core.specs.Places.{moved}
 use Rattle.landing_core.specs.Fresh.{reach_of, reach_from, shrunk}
 
 pub split_listing : (listing : List Listed) (k : ℕ) (listed : Listed) → k < length listing → listed ≡ get_or listing k listed → drop k listing ≡ listed ∷ drop (k + 1) listing

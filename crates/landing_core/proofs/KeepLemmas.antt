@@ -1,5 +1,5 @@
 -- The files once one was set or taken away.
-use Rattle.std.proofs.Common.{◌≡◌, ℕ, ◌+◌, ◌<◌, List, [], ◌∷◌, ◌++◌, length, get_or, take, drop, Bool, true, false, not, ◌&&◌, ◌||◌, cond, refl, sym, ap, ◌∙◌, arith, add-one, Option, Some, None, Result, Ok, Err, OnOk, OnErr, IsOk, is_ok}
+use Rattle.std.proofs.Common.{◌≡◌, ℕ, ◌+◌, ◌<◌, List, [], ◌∷◌, ◌++◌, length, get_or, take, drop, Bool, true, false, not, ◌&&◌, ◌||◌, cond, refl, sym, ap, ◌∙◌, add-one, Option, Some, None, Result, Ok, Err, OnOk, OnErr, IsOk, is_ok}
 use Rattle.std.specs.Str.{bytes_eq}
 use Rattle.std.proofs.lemmas.Slice.Eq.{bytes_eq-Decides}
 use Rattle.std.proofs.lemmas.List.{drop_more, set_split}
@@ -8,7 +8,7 @@ use Rattle.std.specs.List.{insert}
 use Rattle.std.specs.Prelude.{if◌then◌else◌}
 use Rattle.landing_core.specs.declared.landing.LandingFile.{LandingFile}
 use Rattle.landing_core.specs.Folders.{is_at, bytes_of, has_file, are_distinct, with_file, without_file, found_file, SameFiles, HoldsPresent}
-use Rattle.landing_core.proofs.FolderLemmas.{and_left, and_right, true_or_false}
+use Rattle.landing_core.proofs.FolderLemmas.{and_left, and_right}
 
 abbrev named : List ℕ → List ℕ → List ℕ → LandingFile
 named dir name bytes = record { dir = dir; file = name; bytes = bytes }

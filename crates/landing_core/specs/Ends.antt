@@ -1,5 +1,5 @@
 -- Why no lines were read.
-use Rattle.std.specs.Prelude.{◌≡◌, ℕ, List, Option, Some, None}
+use Rattle.std.specs.Prelude.{◌≡◌, List, Option, Some, None}
 use Rattle.value_core.specs.declared.cursor.FilePlace.{FilePlace}
 use Rattle.landing_core.specs.declared.landing.Listed.{Listed}
 use Rattle.landing_core.specs.declared.ends.LineEnd.{LineEnd}

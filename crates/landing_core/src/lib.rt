@@ -20,3 +20,6 @@ pub use mem_landing::MemLanding;
 pub use names::is_ascending;
 pub use places::is_same_places;
 pub use sure_landing::SureLanding;
+
+#[cfg(test)]
+mod tests;

@@ -1,8 +1,6 @@
-use Rattle.std.proofs.Common.{◌≡◌, ◌∙◌, ◌+◌, ◌∷◌, [], drop, sym, arith}
+use Rattle.std.proofs.Common.{◌∙◌, ◌+◌, ◌∷◌, [], drop, arith}
 use Rattle.landing_core.specs.Lines.{head_text}
 use Rattle.landing_core.specs.Fresh.{head_in, heads_of, new_rows, new_lines}
-use Rattle.landing_core.specs.Places.{moved, placed_names, AreAboveZero, NoneFalls}
-use Rattle.landing_core.specs.Names.{AreAscending}
 use Rattle.landing_core.proofs.FreshLemmas.{split_listing, unshrunk_more, added, places_more}
 use Rattle.landing_core.proofs.PlaceLawLemmas.{moved_ascending, moved_above, moved_later}
 use Rattle.landing_core.proofs.fresh.read_files.Goals as goal

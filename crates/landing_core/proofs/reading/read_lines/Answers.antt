@@ -1,4 +1,4 @@
-use Rattle.std.proofs.Common.{◌≡◌, ◌+◌, ◌≤◌, ◌∙◌, length, length-append, length-drop, length-take, arith, sym, rules}
+use Rattle.std.proofs.Common.{◌≡◌, ◌+◌, ◌≤◌, ◌∙◌, length, length-append, length-drop, length-take, arith, rules}
 use Rattle.std.specs.Prelude.{slice_range}
 use Rattle.landing_core.specs.Folders.{bytes_of}
 use Rattle.landing_core.proofs.PieceLemmas.{rows_more, end_more, piece_is}

@@ -1,4 +1,4 @@
-use Rattle.std.proofs.Common.{◌≡◌, ◌++◌, true, sym, ◌∙◌, arith}
+use Rattle.std.proofs.Common.{◌≡◌, ◌++◌}
 use Rattle.landing_core.specs.Folders.{bytes_of}
 use Rattle.landing_core.proofs.KeepLemmas.{present_kept}
 use Rattle.landing_core.proofs.sure_landing.SureLanding.grow.Goals as goal

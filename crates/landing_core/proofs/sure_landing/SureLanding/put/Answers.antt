@@ -1,4 +1,4 @@
-use Rattle.std.proofs.Common.{◌≡◌, true, sym, ◌∙◌, arith}
+use Rattle.std.proofs.Common.{◌≡◌, true, ◌∙◌, arith}
 use Rattle.landing_core.specs.Folders.{are_distinct, with_file}
 use Rattle.landing_core.proofs.KeepLemmas.{after_set, ever_set, present_kept, set_distinct}
 use Rattle.landing_core.proofs.sure_landing.SureLanding.put.Goals as goal

@@ -1,5 +1,5 @@
-use Rattle.std.proofs.Common.{◌≡◌, ◌+◌, ◌<◌, IsOk, vec_len, vec_capacity, true, sym, ◌∙◌, arith, Some, None}
-use Rattle.landing_core.specs.Folders.{are_distinct, found_file}
+use Rattle.std.proofs.Common.{◌≡◌, ◌+◌, ◌<◌, IsOk, vec_len, vec_capacity, sym, ◌∙◌, arith, None}
+use Rattle.landing_core.specs.Folders.{found_file}
 use Rattle.landing_core.proofs.KeepLemmas.{insert_first, insert_len, taken_ever, taken_distinct, none_taken, present_kept, same_refl}
 use Rattle.landing_core.proofs.sure_landing.SureLanding.remove.Goals as goal
 
