@@ -8,24 +8,28 @@ use std::test::Fail;
 fn files_are_written_read_and_cut(rt: HostRuntime) -> Result<(), Fail> {
     fs::create_dir_all(&rt, "disk_here")?;
     let mut disk = FileDisk::new(&rt, "disk_here/s.left", "disk_here/s.right");
-    assert!(rt; disk.len(Side::Left) == Ok(0));
-    assert!(rt; disk.write_at(Side::Left, 0, b"abc") == Ok(()));
-    assert!(rt; disk.write_at(Side::Left, 2, b"de") == Ok(()));
-    assert!(rt; disk.sync(Side::Left) == Ok(()));
+    assert!(rt; disk.write_at(Side::Left, 0, b"abc").is_ok());
+    assert!(rt; disk.sync(Side::Left).is_ok());
+    assert!(rt; disk.cut(Side::Left, 2).is_ok());
     let mut read = [0u8; 2];
-    assert!(rt; disk.read_at(Side::Left, 2, &mut read) == Ok(()));
-    assert!(rt; read == *b"de");
-    assert!(rt; disk.cut(Side::Left, 1) == Ok(()));
-    assert!(rt; disk.len(Side::Left) == Ok(1));
+    assert!(rt; disk.read_at(Side::Left, 0, &mut read).is_ok());
+    assert!(rt; read == *b"ab");
+    assert!(rt; disk.read_at(Side::Left, 1, &mut read).is_err());
     assert!(rt; disk.len(Side::Right) == Ok(0));
-    assert!(rt; disk.read_at(Side::Left, 0, &mut read).is_err());
     assert_eq!(rt; disk.faults(), 1);
-    let mut source = FileSource::new(&rt, "disk_here/s.left");
+    fs::remove_dir_all(&rt, "disk_here")?;
+    Ok(())
+}
+
+#[test]
+fn texts_are_read_and_printed(rt: HostRuntime) -> Result<(), Fail> {
+    fs::write(&rt, "text_here", "a")?;
+    let mut source = FileSource::new(&rt, "text_here");
+    let mut read = [0u8; 2];
     assert!(rt; source.read(&mut read) == Ok(1));
     assert!(rt; source.read(&mut read) == Ok(0));
-    let mut out = PrintSink::new(&rt);
-    assert!(rt; out.write(b"") == Ok(()));
-    fs::remove_dir_all(&rt, "disk_here")?;
+    assert!(rt; PrintSink::new(&rt).write(b"printed\n").is_ok());
+    fs::remove_file(&rt, "text_here")?;
     Ok(())
 }
 
@@ -42,16 +46,21 @@ fn folders_are_listed_and_read(rt: HostRuntime) -> Result<(), Fail> {
     let mut names = Vec::new(alloc);
     for listed in listing.as_slice() {
         names.extend_from_slice(listed.file.as_str().as_bytes())?;
-        names.push(b'0' + (listed.size % 10) as u8)?;
+        names.push((listed.size % 10) as u8)?;
     }
-    assert_eq!(rt; names.as_slice(), b"a2b3".as_slice());
+    assert_eq!(rt; names.as_slice(), b"a\x02b\x03".as_slice());
     let mut read = [0u8; 2];
-    assert!(rt; landing.read_at("in", "b", 1, &mut read) == Ok(()));
+    assert!(rt; landing.read_at("in", "b", 1, &mut read).is_ok());
     assert!(rt; read == *b"es");
     assert!(rt; landing.read_at("in", "b", 2, &mut read).is_err());
     assert_eq!(rt; landing.faults(), 1);
-    let none = landing.list(alloc, "none").ok().ok_or("no listing")?;
-    assert!(rt; none.is_empty());
+    assert!(rt;
+        landing
+            .list(alloc, "none")
+            .ok()
+            .ok_or("no listing")?
+            .is_empty()
+    );
     fs::remove_dir_all(&rt, "landing_here")?;
     Ok(())
 }
