@@ -1,18 +1,15 @@
 -- The token at the front of a lexeme's spelling.
-use Rattle.std.proofs.Common.{◌≡◌, ◌≢◌, ℕ, ◌+◌, ◌-◌, ◌≤◌, ◌<◌, Bool, true, false, not, cond, ◌&&◌, ◌||◌, ◌==◌, eqb, List, [], ◌∷◌, ◌++◌, length, take, drop, get_or, slice_index, Some, None, refl, sym, ap, ◌∙◌, subst, arith, rules, codes, ◌⊎◌, inl, inr, ⊎_elim, nat_lt, nat_le, append_assoc, length-append}
-use Rattle.std.specs.Char.{is_ascii_digit, is_ascii_alphabetic, is_ascii_alphanumeric}
-use Rattle.std.specs.List.{list_all, prefix_len}
+use Rattle.std.proofs.Common.{◌≡◌, ℕ, ◌+◌, ◌<◌, Bool, true, false, not, ◌&&◌, ◌||◌, ◌==◌, [], ◌∷◌, ◌++◌, length, slice_index, Some, refl, sym, ap, ◌∙◌, subst, arith, rules, ◌⊎◌, inl, inr, ⊎_elim, nat_lt}
+use Rattle.std.specs.List.{list_all}
 use Rattle.std.proofs.lemmas.Bool.Decides.{nat_tests}
-use Rattle.std.proofs.lemmas.Bool.{and_parts, and_from, or_cases, not-true, eqb-true, cond-true, cond-false, cases_Bool, or_parts, lt-ltb, eq-eqb}
-use Rattle.std.proofs.lemmas.List.{get_or_at, get_or-append_right}
+use Rattle.std.proofs.lemmas.Bool.{and_parts, and_from, not-true, eqb-true, cond-true, cond-false, cases_Bool, or_parts, lt-ltb, eq-eqb}
 use Rattle.sql_tokens.specs.declared.token.TokenKind.TheVariants.{Word, Quoted, Str, Number, Symbol}
 use Rattle.sql_tokens.specs.declared.lexical.Class.{Class}
 use Rattle.sql_tokens.specs.declared.lexical.Class.TheVariants as class
-use Rattle.sql_tokens.specs.declared.lexical.Piece.TheVariants.{Blank, Token, Bad}
-use Rattle.sql_tokens.specs.Lexical.{Text, is_in, run, piece, closing, is_escape, number, quoted, string, string_to, minus, symbol_len}
+use Rattle.sql_tokens.specs.declared.lexical.Piece.TheVariants.{Blank, Token}
+use Rattle.sql_tokens.specs.Lexical.{Text, is_in, run, piece, closing, is_escape, string_to}
 use Rattle.sql_tree.specs.declared.lexeme.LexemeKind.{LexemeKind}
 use Rattle.sql_tree.specs.declared.lexeme.LexemeKind.TheVariants as k
-use Rattle.sql_tree.specs.declared.lexeme.Lexeme.{Lexeme}
 use Rattle.sql_tree.specs.Spelling.{is_word, escaped, symbol}
 
 -- nothing or a blank, which no token goes on with
@@ -84,7 +81,7 @@ quoted_piece b z rest all =
     let text : Text = 96 ∷ b ∷ z ++ 96 ∷ rest in
     let len = run_all class.Quoted (b ∷ z) (96 ∷ rest) all refl in
     let close : slice_index text (length (b ∷ z) + 1) ≡ 96 =
-        (let width : length (b ∷ z) + 1 ≡ length (96 ∷ b ∷ z) = omega arith in ap (slice_index text) width ∙ index_behind (96 ∷ b ∷ z) (96 ∷ rest)) in
+    (let width : length (b ∷ z) + 1 ≡ length (96 ∷ b ∷ z) = omega arith in ap (slice_index text) width ∙ index_behind (96 ∷ b ∷ z) (96 ∷ rest)) in
     let some : (nat_lt 0 (length (b ∷ z)) && slice_index text (length (b ∷ z) + 1) == 96) ≡ true = and_from _ _ (lt-ltb 0 (length (b ∷ z)) (omega arith)) (eq-eqb _ _ close) in
     cond-true _ _ _ (ap (λ n. nat_lt 0 n && slice_index text (n + 1) == 96) len ∙ some) ∙ ap (λ n. Token Quoted (n + 2)) len
 
@@ -113,6 +110,7 @@ escaped_closes (b ∷ z) rest at = ⊎_elim (marked (escaped_closes z rest (at +
         closing 39 false at (escaped (b ∷ z) ++ 39 ∷ rest) ≡ Some (at + length (escaped (b ∷ z)) + 1)
     marked more h = subst (λ s. closing 39 false at (s ++ 39 ∷ rest) ≡ Some (at + length s + 1)) (sym (escaped_marked b z h))
         (closes_marked b (escaped z ++ 39 ∷ rest) at h ∙ more ∙ ap Some (omega arith))
+
     plain : closing 39 false (at + 1) (escaped z ++ 39 ∷ rest) ≡ Some (at + 1 + length (escaped z) + 1) → (b == 39 || b == 92) ≡ false →
         closing 39 false at (escaped (b ∷ z) ++ 39 ∷ rest) ≡ Some (at + length (escaped (b ∷ z)) + 1)
     plain more h = subst (λ s. closing 39 false at (s ++ 39 ∷ rest) ≡ Some (at + length s + 1)) (sym (escaped_plain b z h))

@@ -1,6 +1,6 @@
 -- The text of lexemes has tokens that are these lexemes.
-use Rattle.std.proofs.Common.{◌≡◌, ◌≢◌, ℕ, ◌+◌, ◌-◌, ◌≤◌, ◌<◌, Bool, true, false, not, cond, ◌&&◌, ◌||◌, ◌==◌, ◌^◌, nat_le, decimal, List, [], ◌∷◌, ◌++◌, length, take, drop, map, slice_index, Ok, Err, refl, sym, ap, ap₂, ◌∙◌, subst, arith, rules, bytes_eq, ◌⊎◌, inl, inr, ⊎_elim, append_assoc, append-nil, length-append}
-use Rattle.std.proofs.lemmas.Bool.{both_ways, leb-true, and_parts, or_parts, or_cases, not-true, cond-true, cond-false, cases_Bool}
+use Rattle.std.proofs.Common.{◌≡◌, ℕ, ◌+◌, ◌-◌, ◌≤◌, ◌<◌, true, false, not, ◌&&◌, ◌||◌, ◌==◌, ◌^◌, nat_le, decimal, List, [], ◌∷◌, ◌++◌, length, take, drop, map, slice_index, Ok, refl, sym, ap, ap₂, ◌∙◌, subst, arith, rules, ◌⊎◌, inl, inr, ⊎_elim, append_assoc, append-nil, length-append}
+use Rattle.std.proofs.lemmas.Bool.{both_ways, leb-true, and_parts, or_cases, cond-true, cond-false, cases_Bool}
 use Rattle.std.proofs.lemmas.Slice.Eq.{bytes_eq-Decides}
 use Rattle.std.proofs.lemmas.List.{take_at, drop_at}
 use denote.Enum.Bare.{same_true}
@@ -11,7 +11,7 @@ use Rattle.sql_tokens.specs.declared.token.TokenKind.TheVariants as token
 use Rattle.sql_tokens.specs.declared.lexical.Class.TheVariants as class
 use Rattle.sql_tokens.specs.declared.lexical.Context.{Context}
 use Rattle.sql_tokens.specs.declared.lexical.Context.TheVariants.{Open}
-use Rattle.sql_tokens.specs.declared.lexical.Piece.TheVariants.{Blank, Token}
+use Rattle.sql_tokens.specs.declared.lexical.Piece.TheVariants.{Token}
 use Rattle.sql_tokens.specs.Lexical.{Text, piece, is_in, after, is_too_large}
 use Rattle.sql_tokens.specs.Scanning as scanning
 use Rattle.sql_tokens.specs.Scanning.{Answer, Scans}
@@ -23,7 +23,7 @@ use Rattle.sql_tree.specs.Lexemes.{same_kind, is_any_word}
 use Rattle.sql_tree.specs.Spelling.{spelling, ends_operand, gap, spelled_behind, spelled}
 use Rattle.sql_lexemes.specs.Lexing.{lexeme, lexeme_of}
 use Rattle.sql_lexemes.specs.Spellable.{is_spellable, is_within_limit, are_spellable_behind, are_spellable}
-use Rattle.sql_lexemes.proofs.Pieces.{is_apart, minus_piece, blank_piece}
+use Rattle.sql_lexemes.proofs.Pieces.{minus_piece, blank_piece}
 use Rattle.sql_lexemes.proofs.Spellings.{context, Reads, reads, decimal_number, digits_front}
 
 -- ---- steps of the scan
@@ -65,7 +65,7 @@ goes_token v rest t kind second first found ts r e within (more, scans, same) =
     let here : tokens.Token = record { start = length v; end = length v + length (spelling t); kind = kind } in (
       here ∷ more,
       token_step (context second first) (context first t.kind) (length v) kind (spelling t) rest found (Ok (found ++ here ∷ more)) r.some e (r.small second first within) (r.after_is second first)
-      (subst (λ found'. Scans (context first t.kind) (length v + length (spelling t)) rest (found ++ here ∷ []) (Ok found')) (append_assoc found (here ∷ []) more) scans),
+          (subst (λ found'. Scans (context first t.kind) (length v + length (spelling t)) rest (found ++ here ∷ []) (Ok found')) (append_assoc found (here ∷ []) more) scans),
       ap₂ (λ x xs. x ∷ xs) (ap (lexeme kind) (slice_at v (spelling t) rest kind) ∙ r.means) same,
     )
 
@@ -131,10 +131,12 @@ next_piece t kind first (next ∷ ts) h more r = ⊎_elim glued apart (cases_Boo
   where
     spellable : is_spellable next ≡ true
     spellable = (and_parts _ _ (and_parts _ (are_spellable_behind t.kind next.kind ts) more).0).0
+
     apart : (same_kind t.kind k.End || (same_kind t.kind k.Minus && not (ends_operand first) && same_kind next.kind k.Number)) ≡ false →
         piece (spelling t ++ spelled_behind first t.kind (next ∷ ts)) ≡ Token kind (length (spelling t))
     apart e = subst (λ g. piece (spelling t ++ (g ++ spelling next ++ spelled_behind t.kind next.kind ts)) ≡ Token kind (length (spelling t))) (sym (cond-false _ [] (32 ∷ []) e))
         (r.piece_is (32 ∷ (spelling next ++ spelled_behind t.kind next.kind ts)) refl)
+
     number : (same_kind t.kind k.Minus && not (ends_operand first) && same_kind next.kind k.Number) ≡ true →
         piece (spelling t ++ (spelling next ++ spelled_behind t.kind next.kind ts)) ≡ Token kind (length (spelling t))
     number e =
@@ -142,6 +144,7 @@ next_piece t kind first (next ∷ ts) h more r = ⊎_elim glued apart (cases_Boo
         let minus : t.kind ≡ k.Minus = kinds_same t.kind k.Minus (and_parts (same_kind t.kind k.Minus) (not (ends_operand first)) parts.0).0 in
         let digits = number_front next (kinds_same next.kind k.Number parts.1) spellable in
         piece_minus t kind (spelling next) (spelled_behind t.kind next.kind ts) h minus r digits.0 digits.1
+
     glued : (same_kind t.kind k.End || (same_kind t.kind k.Minus && not (ends_operand first) && same_kind next.kind k.Number)) ≡ true →
         piece (spelling t ++ spelled_behind first t.kind (next ∷ ts)) ≡ Token kind (length (spelling t))
     glued e = subst (λ g. piece (spelling t ++ (g ++ spelling next ++ spelled_behind t.kind next.kind ts)) ≡ Token kind (length (spelling t))) (sym (cond-true _ [] (32 ∷ []) e))
@@ -161,11 +164,11 @@ goes_gap g (inr e) c u s rest found ts some front =
   where
     blank : Goes ((u ++ 32 ∷ []) ++ (s ++ rest)) c (length (u ++ 32 ∷ [])) (s ++ rest) found ts → Goes (u ++ (32 ∷ (s ++ rest))) c (length u) (32 ∷ (s ++ rest)) found ts
     blank (more, scans, same) = (
-          more,
-          blank_step c (length u) (s ++ rest) found (Ok (found ++ more)) (omega (arith, length-append s rest)) (front_append s rest some front)
+      more,
+      blank_step c (length u) (s ++ rest) found (Ok (found ++ more)) (omega (arith, length-append s rest)) (front_append s rest some front)
           (subst (λ n. Scans c n (s ++ rest) found (Ok (found ++ more))) (length-append u (32 ∷ [])) scans),
-          subst (λ text. map (lexeme_of text) more ≡ ts) (append_assoc u (32 ∷ []) (s ++ rest)) same,
-        )
+      subst (λ text. map (lexeme_of text) more ≡ ts) (append_assoc u (32 ∷ []) (s ++ rest)) same,
+    )
 
 goes : (ts : List Lexeme) (second first : LexemeKind) (u : Text) (found : List tokens.Token) → are_spellable_behind second first ts ≡ true →
     Goes (u ++ spelled_behind second first ts) (context second first) (length u) (spelled_behind second first ts) found ts
@@ -179,9 +182,9 @@ goes (t ∷ ts) second first u found h =
     let rest : Text = spelled_behind first t.kind ts in
     let later : Goes ((v ++ spelling t) ++ rest) (context first t.kind) (length (v ++ spelling t)) rest (found ++ here ∷ []) ts = goes ts first t.kind (v ++ spelling t) (found ++ here ∷ []) parts.1 in
     let placed : Goes ((v ++ spelling t) ++ rest) (context first t.kind) (length v + length (spelling t)) rest (found ++ here ∷ []) ts =
-        (subst (λ n. Goes ((v ++ spelling t) ++ rest) (context first t.kind) n rest (found ++ here ∷ []) ts) (length-append v (spelling t)) later) in
+    (subst (λ n. Goes ((v ++ spelling t) ++ rest) (context first t.kind) n rest (found ++ here ∷ []) ts) (length-append v (spelling t)) later) in
     let whole : Goes (v ++ (spelling t ++ rest)) (context first t.kind) (length v + length (spelling t)) rest (found ++ here ∷ []) ts =
-        (subst (λ text. Goes text (context first t.kind) (length v + length (spelling t)) rest (found ++ here ∷ []) ts) (append_assoc v (spelling t) rest) placed) in
+    (subst (λ text. Goes text (context first t.kind) (length v + length (spelling t)) rest (found ++ here ∷ []) ts) (append_assoc v (spelling t) rest) placed) in
     goes_gap (gap second first t.kind) (gap_cases second first t.kind) (context second first) u (spelling t) rest found (t ∷ ts) r.some r.front
     (goes_token v rest t kind second first found ts r (next_piece t kind first ts both.0 parts.1 r) both.1 whole)
 

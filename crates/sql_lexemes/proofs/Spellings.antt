@@ -1,9 +1,8 @@
 -- What the spelling of one lexeme reads as.
-use Rattle.std.proofs.Common.{◌≡◌, ◌≢◌, ℕ, ◌+◌, ◌-◌, ◌*◌, ◌/◌, ◌%◌, ◌^◌, ◌≤◌, ◌<◌, min, Bool, true, false, not, cond, ◌&&◌, ◌||◌, ◌==◌, eqb, nat_lt, nat_le, List, [], ◌∷◌, ◌++◌, length, take, drop, slice_index, fold, refl, sym, ap, ◌∙◌, subst, arith, rules, bytes_eq, codes, ◌⊎◌, inl, inr, ⊎_elim, decimal, IsUtf8, append_assoc, append-nil, length-append}
-use Rattle.std.specs.List.{list_all, prefix_len}
-use Rattle.std.specs.Str.{is_utf8}
-use Rattle.std.specs.Char.{is_ascii_digit, is_ascii_alphabetic, is_ascii_alphanumeric}
-use Rattle.std.proofs.lemmas.Bool.{and_parts, and_from, or_parts, or_from, or_left, or_right, or_cases, not-true, not-false, not_from_false, cond-true, cond-false, cases_Bool, eqb-true, leb-true, le-ltb}
+use Rattle.std.proofs.Common.{◌≡◌, ℕ, ◌+◌, ◌-◌, ◌*◌, ◌/◌, ◌%◌, ◌^◌, ◌≤◌, ◌<◌, min, Bool, true, false, not, cond, ◌&&◌, ◌||◌, ◌==◌, nat_lt, nat_le, [], ◌∷◌, ◌++◌, length, slice_index, refl, sym, ap, ◌∙◌, subst, arith, rules, bytes_eq, ◌⊎◌, inl, inr, ⊎_elim, decimal, append_assoc, length-append}
+use Rattle.std.specs.List.{list_all}
+use Rattle.std.specs.Char.{is_ascii_alphabetic}
+use Rattle.std.proofs.lemmas.Bool.{and_parts, and_from, or_parts, or_cases, cond-true, cond-false, cases_Bool, eqb-true, leb-true, le-ltb}
 use Rattle.std.proofs.lemmas.Bool.Decides.{nat_tests}
 use Rattle.std.proofs.lemmas.Slice.Eq.{bytes_eq-Decides}
 use Rattle.std.proofs.lemmas.Fmt.{decimal_by_steps}
@@ -17,7 +16,7 @@ use Rattle.sql_tokens.specs.declared.lexical.Class.TheVariants as class
 use Rattle.sql_tokens.specs.declared.lexical.Context.{Context}
 use Rattle.sql_tokens.specs.declared.lexical.Context.TheVariants.{Open, Sign, Operand}
 use Rattle.sql_tokens.specs.declared.lexical.Piece.TheVariants.{Token}
-use Rattle.sql_tokens.specs.Lexical.{Text, piece, is_in, after, after_symbol, is_among, is_too_large, capped_value, cap, limit}
+use Rattle.sql_tokens.specs.Lexical.{Text, piece, is_in, after, is_among, is_too_large, capped_value, cap, limit}
 use Rattle.sql_tree.specs.declared.lexeme.LexemeKind.{LexemeKind}
 use Rattle.sql_tree.specs.declared.lexeme.LexemeKind.TheVariants as k
 use Rattle.sql_tree.specs.declared.lexeme.Lexeme.{Lexeme}
@@ -110,6 +109,7 @@ unescaped-escaped (b ∷ z) = ⊎_elim (marked (unescaped-escaped z)) (plain (un
   where
     marked : unescaped false (escaped z) ≡ z → (b == 39 || b == 92) ≡ true → unescaped false (escaped (b ∷ z)) ≡ b ∷ z
     marked more h = ap (unescaped false) (cond-true _ (92 ∷ b ∷ escaped z) (b ∷ escaped z) h) ∙ unescaped_marked b (escaped z) h ∙ ap (λ s. b ∷ s) more
+
     plain : unescaped false (escaped z) ≡ z → (b == 39 || b == 92) ≡ false → unescaped false (escaped (b ∷ z)) ≡ b ∷ z
     plain more h = ap (unescaped false) (cond-false _ (92 ∷ b ∷ escaped z) (b ∷ escaped z) h) ∙ unescaped_plain b (escaped z) h ∙ ap (λ s. b ∷ s) more
 
@@ -144,10 +144,10 @@ one_digit n h = (omega arith, and_from _ _ (digit_of n h) refl, λ le. omega ari
 
 one_more : (n : ℕ) (ds : Text) → 10 ≤ n → IsNumber (n / 10) ds → IsNumber n (ds ++ ((48 + n % 10) ∷ []))
 one_more n ds ge h = (
-      omega (arith, length-append ds ((48 + n % 10) ∷ [])),
-      all_push ds (48 + n % 10) h.1 (digit_of (n % 10) (omega arith)),
-      λ le. fold_push (λ n b. min (10 * n + (b - 48)) cap) 0 ds (48 + n % 10) ∙ ap (λ m. min (10 * m + (48 + n % 10 - 48)) cap) (h.2 (omega arith)) ∙ omega arith,
-    )
+  omega (arith, length-append ds ((48 + n % 10) ∷ [])),
+  all_push ds (48 + n % 10) h.1 (digit_of (n % 10) (omega arith)),
+  λ le. fold_push (λ n b. min (10 * n + (b - 48)) cap) 0 ds (48 + n % 10) ∙ ap (λ m. min (10 * m + (48 + n % 10 - 48)) cap) (h.2 (omega arith)) ∙ omega arith,
+)
 
 pub decimal_number : (n : ℕ) → n < 2 ^ 64 → IsNumber n (decimal n)
 decimal_number n h = decimal_by_steps IsNumber one_digit one_more n h

@@ -1,14 +1,13 @@
 -- A word's kind and what it leaves a minus behind it to be.
-use Rattle.std.proofs.Common.{◌≡◌, ◌≢◌, ℕ, Bool, true, false, not, cond, ◌&&◌, ◌||◌, eqb, List, [], ◌∷◌, map, refl, sym, ap, ◌∙◌, subst, arith, rules, ◌⊎◌, inl, inr, ⊎_elim, bytes_eq, codes}
-use Rattle.std.specs.List.{list_all, list_any}
+use Rattle.std.proofs.Common.{◌≡◌, Bool, true, false, not, cond, ◌&&◌, ◌||◌, List, [], ◌∷◌, map, refl, sym, ap, ◌∙◌, ◌⊎◌, inl, inr, ⊎_elim, bytes_eq}
 use Rattle.std.specs.Str.{str_eq_ignore_ascii_case, str_to_ascii_lowercase}
-use Rattle.std.proofs.lemmas.Bool.{and_parts, and_from, or_parts, or_from, or_left, or_right, or_cases, not-true, not_from_false, cond-true, cond-false, cases_Bool, false_from_ne_true, both_ways}
+use Rattle.std.proofs.lemmas.Bool.{and_parts, and_from, or_from, or_cases, not-true, not_from_false, cond-true, cond-false, cases_Bool, false_from_ne_true, both_ways}
 use Rattle.std.proofs.lemmas.Slice.Eq.{bytes_eq-Decides}
 use Rattle.sql_tokens.specs.declared.lexical.TheConstants.{INNER_WORDS}
 use Rattle.sql_tokens.specs.Lexical.{Text, is_among}
 use Rattle.sql_tree.specs.declared.lexeme.LexemeKind.{LexemeKind}
 use Rattle.sql_tree.specs.declared.lexeme.LexemeKind.TheVariants as k
-use Rattle.sql_tree.specs.Lexemes.{same_kind, keyword, kind_among, reserved_kinds, word_kind}
+use Rattle.sql_tree.specs.Lexemes.{keyword, kind_among, reserved_kinds, word_kind}
 use Rattle.sql_tree.specs.Spelling.{ends_operand}
 
 abbrev pub inner_words : List Text
@@ -50,8 +49,10 @@ agrees (kind ∷ kinds) z ok = ⊎_elim yes (no (agrees kinds z (and_parts _ (ag
   where
     parts : ((cond (is_among inner_words (keyword kind)) (not (ends_operand kind)) (ends_operand kind)) ≡ true) × (agree kinds ≡ true)
     parts = and_parts _ (agree kinds) ok
+
     yes : str_eq_ignore_ascii_case z (keyword kind) ≡ true → (is_among inner_words z ≡ not (ends_operand (kind_among (kind ∷ kinds) z))) ⊎ ((kind_among (kind ∷ kinds) z ≡ k.Word) × (none_of (kind ∷ kinds) z ≡ true))
     yes h = inl (agree_at kind z parts.0 h ∙ ap (λ x. not (ends_operand x)) (sym (cond-true _ kind (kind_among kinds z) h)))
+
     no : (is_among inner_words z ≡ not (ends_operand (kind_among kinds z))) ⊎ ((kind_among kinds z ≡ k.Word) × (none_of kinds z ≡ true)) → str_eq_ignore_ascii_case z (keyword kind) ≡ false → (is_among inner_words z ≡ not (ends_operand (kind_among (kind ∷ kinds) z))) ⊎ ((kind_among (kind ∷ kinds) z ≡ k.Word) × (none_of (kind ∷ kinds) z ≡ true))
     no rest h = let same : kind_among (kind ∷ kinds) z ≡ kind_among kinds z = cond-false _ kind (kind_among kinds z) h in
         ⊎_elim (λ e. inl (e ∙ ap (λ x. not (ends_operand x)) (sym same))) (λ e. inr (same ∙ e.0, and_from _ _ (not_from_false _ h) e.1)) rest
@@ -73,7 +74,7 @@ not_this [] w z among none h = absurd (cc)
 not_this (kind ∷ kinds) w z among none h =
     let parts = and_parts (not (str_eq_ignore_ascii_case z (keyword kind))) (none_of kinds z) none in
     let here : str_eq_ignore_ascii_case w (keyword kind) ≡ true → ⊥ = λ e.
-        both_ways (str_eq_ignore_ascii_case z (keyword kind)) (not-true _ parts.0) (ap (λ low. bytes_eq low (str_to_ascii_lowercase (keyword kind))) (same_lower z w h) ∙ e) in
+    both_ways (str_eq_ignore_ascii_case z (keyword kind)) (not-true _ parts.0) (ap (λ low. bytes_eq low (str_to_ascii_lowercase (keyword kind))) (same_lower z w h) ∙ e) in
     ⊎_elim here (λ e. not_this kinds w z e parts.1 h) (or_cases _ _ among)
 
 none_among : (ws : List Text) (z : Text) → all_among ws ≡ true → none_of reserved_kinds z ≡ true → is_among ws z ≡ false

@@ -1,5 +1,5 @@
 -- The canonical print of a tree, as lexemes. Each operator, test and NOT stands in parentheses.
-use Rattle.std.specs.Prelude.{ℕ, suc, ℤ, pos, negsuc, Bool, true, false, if◌then◌else◌, List, [], ◌∷◌, ◌++◌, map, Option, Some, None, codes}
+use Rattle.std.specs.Prelude.{ℕ, suc, ℤ, pos, negsuc, Bool, if◌then◌else◌, List, [], ◌∷◌, ◌++◌, map, Option, Some, None, codes}
 use Rattle.sql_tree.specs.declared.expr.SqlOp.{SqlOp}
 use Rattle.sql_tree.specs.declared.expr.SqlOp.TheVariants as op
 use Rattle.sql_tree.specs.declared.expr.SqlType.{SqlType}

@@ -5,6 +5,7 @@
 mod expr;
 mod lexeme;
 mod statement;
+mod words;
 
 pub use expr::{SqlArm, SqlArms, SqlExpr, SqlExprs, SqlOp, SqlType};
 pub use lexeme::{Lexeme, LexemeKind, same_kind};
@@ -12,3 +13,7 @@ pub use statement::{
     CdcTree, OptionValue, Out, Outs, Select, SqlAction, SqlItem, SqlItems, SqlOption, SqlOptions,
     SqlOrigin, SqlSequence, SqlSome, Statement, Statements,
 };
+pub use words::{keyword, symbol, word_kind};
+
+#[cfg(test)]
+mod tests;
