@@ -117,3 +117,47 @@ fn refuses(rt: HostRuntime) -> Result<(), Fail> {
     );
     Ok(())
 }
+
+fn word(alloc: Global, text: &str) -> Result<Lexeme, AllocError> {
+    Ok(Lexeme {
+        kind: LexemeKind::Word,
+        text: Text::new(alloc, text)?,
+        value: 0,
+    })
+}
+
+#[test]
+fn calls(rt: HostRuntime) -> Result<(), Fail> {
+    let alloc = rt.alloc();
+    let mut count = Vec::new(alloc);
+    count.push(word(alloc, "Count")?)?;
+    count.push(token(alloc, LexemeKind::LParen)?)?;
+    count.push(token(alloc, LexemeKind::Star)?)?;
+    count.push(token(alloc, LexemeKind::RParen)?)?;
+    assert!(rt; matches!(read(alloc, count.as_slice()), Ok(SqlExpr::CountAll)));
+    let mut sum = Vec::new(alloc);
+    sum.push(word(alloc, "sum")?)?;
+    assert!(rt; matches!(read(alloc, sum.as_slice()), Ok(SqlExpr::Name(_))));
+    sum.push(token(alloc, LexemeKind::LParen)?)?;
+    sum.push(token(alloc, LexemeKind::Star)?)?;
+    assert!(rt;
+        matches!(
+            read(alloc, sum.as_slice()),
+            Err(Refusal::Unexpected { at: 2 })
+        )
+    );
+    let mut cast = Vec::new(alloc);
+    cast.push(token(alloc, LexemeKind::TryCast)?)?;
+    cast.push(token(alloc, LexemeKind::LParen)?)?;
+    cast.push(token(alloc, LexemeKind::Str)?)?;
+    cast.push(token(alloc, LexemeKind::As)?)?;
+    cast.push(word(alloc, "long")?)?;
+    cast.push(token(alloc, LexemeKind::RParen)?)?;
+    assert!(rt;
+        matches!(
+            read(alloc, cast.as_slice()),
+            Ok(SqlExpr::Cast { trying: true, .. })
+        )
+    );
+    Ok(())
+}

@@ -3,6 +3,7 @@
 
 mod error;
 mod reader;
+mod tokens;
 
 pub use error::ReadError;
 pub use reader::Reader;

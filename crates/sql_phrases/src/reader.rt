@@ -1,10 +1,13 @@
-ghost use Rattle.std.specs.Prelude.{◌≡◌, length, IfOk};
-ghost use Rattle.std.specs.Str.{str_eq_ignore_ascii_case};
+ghost use Rattle.std.specs.Prelude.{◌≡◌, ◌≤◌, length, take, drop, IfOk};
 ghost use Rattle.sql_tree.specs.Lexemes as lexemes;
 ghost use Rattle.sql_phrases.specs.Parsers as spec;
+ghost use Rattle.sql_phrases.specs.Tokens as tokens;
 
 use crate::error::ReadError;
-use sql_tree::{Lexeme, LexemeKind, SqlType, same_kind};
+use crate::tokens::{
+    is_bare, name_of, option_word_of, scd_of, string_of, the, the_word, type_of, value_of,
+};
+use sql_tree::{Lexeme, LexemeKind, OptionValue, SqlType, same_kind};
 use std::alloc::{AllocError, Global};
 use std::marker::Model;
 use value_core::{Name, Text};
@@ -48,6 +51,24 @@ impl<'a> Reader<'a> {
         ensures { result ≡ length self.now }
     {
         self.rest.len()
+    }
+
+    /// A reader of the next tokens alone, of which there are so many.
+    pub fn window(&self, count: usize) -> Reader<'a>
+        requires { count ≤ length self.now }
+        ensures { result ≡ take count self.now }
+    {
+        Reader {
+            rest: &self.rest[..count],
+        }
+    }
+
+    /// Goes behind so many tokens.
+    pub fn advance(&mut self, count: usize)
+        requires { count ≤ length self.old }
+        ensures { self.new ≡ drop count self.old }
+    {
+        self.rest = &self.rest[count..];
     }
 
     /// Goes behind the next token.
@@ -119,6 +140,86 @@ impl<'a> Reader<'a> {
         }
     }
 
+    /// Whether there is a next token, of this kind.
+    pub fn is_at(&self, wanted: LexemeKind) -> bool
+        ensures { result ≡ tokens.begins (tokens.is wanted) self.now }
+    {
+        match self.rest {
+            [] => false,
+            [token, ..] => same_kind(token.kind, wanted),
+        }
+    }
+
+    /// Something where the next token has this kind.
+    pub fn the_at(&self, wanted: LexemeKind) -> Option<()>
+        ensures { result ≡ tokens.of_next (tokens.the wanted) self.now }
+    {
+        match self.rest {
+            [] => None,
+            [token, ..] => the(token, wanted),
+        }
+    }
+
+    /// Something where the next token is this word and not reserved.
+    pub fn the_word_at(&self, word: &str) -> Option<()>
+        ensures { result ≡ tokens.of_next (tokens.the_word word.now) self.now }
+    {
+        match self.rest {
+            [] => None,
+            [token, ..] => the_word(token, word),
+        }
+    }
+
+    /// The name that the next token is, bare or in backquotes.
+    pub fn name_at(&self, alloc: Global) -> Result<Option<Name>, AllocError>
+        ensures { IfOk result (λ name. name ≡ tokens.of_next tokens.name_of self.now) }
+    {
+        match self.rest {
+            [] => Ok(None),
+            [token, ..] => name_of(alloc, token),
+        }
+    }
+
+    /// The string that the next token is.
+    pub fn string_at(&self, alloc: Global) -> Result<Option<Text>, AllocError>
+        ensures { IfOk result (λ text. text ≡ tokens.of_next tokens.string_of self.now) }
+    {
+        match self.rest {
+            [] => Ok(None),
+            [token, ..] => string_of(alloc, token),
+        }
+    }
+
+    /// The word of an option that the next token is, reserved or not.
+    pub fn option_word_at(&self, alloc: Global) -> Result<Option<Name>, AllocError>
+        ensures { IfOk result (λ name. name ≡ tokens.of_next tokens.option_word_of self.now) }
+    {
+        match self.rest {
+            [] => Ok(None),
+            [token, ..] => option_word_of(alloc, token),
+        }
+    }
+
+    /// The value of an option that the next token is: a string, TRUE or FALSE.
+    pub fn value_at(&self, alloc: Global) -> Result<Option<OptionValue>, AllocError>
+        ensures { IfOk result (λ value. value ≡ tokens.of_next tokens.value_of self.now) }
+    {
+        match self.rest {
+            [] => Ok(None),
+            [token, ..] => value_of(alloc, token),
+        }
+    }
+
+    /// The SCD type that the next token is, 1 or 2.
+    pub fn scd_at(&self) -> Option<u8>
+        ensures { result ≡ tokens.of_next tokens.scd_of self.now }
+    {
+        match self.rest {
+            [] => None,
+            [token, ..] => scd_of(token),
+        }
+    }
+
     /// Whether the next token has this kind.
     pub fn sees(&self, wanted: LexemeKind) -> bool
         ensures { result ≡ spec.sees wanted self.now }
@@ -169,43 +270,5 @@ fn begins(tokens: &[Lexeme], wanted: LexemeKind) -> bool
     match tokens {
         [] => same_kind(LexemeKind::End, wanted),
         [token, ..] => same_kind(token.kind, wanted),
-    }
-}
-
-fn is_bare(word: &str, token: &Lexeme) -> bool
-    ensures { result ≡ lexemes.is_bare word.now token.now }
-{
-    same_kind(token.kind, LexemeKind::Word) && token.text.as_str().eq_ignore_ascii_case(word)
-}
-
-fn is_word(word: &str, name: &str) -> bool
-    ensures { result ≡ str_eq_ignore_ascii_case word.now name.now }
-{
-    word.eq_ignore_ascii_case(name)
-}
-
-fn type_named(word: &str) -> Option<SqlType>
-    ensures { result ≡ lexemes.type_named word.now }
-{
-    if is_word(word, "BOOLEAN") {
-        Some(SqlType::Bool)
-    } else if is_word(word, "INT") || is_word(word, "INTEGER") {
-        Some(SqlType::Int)
-    } else if is_word(word, "BIGINT") || is_word(word, "LONG") {
-        Some(SqlType::Big)
-    } else if is_word(word, "STRING") {
-        Some(SqlType::Str)
-    } else {
-        None
-    }
-}
-
-fn type_of(token: &Lexeme) -> Option<SqlType>
-    ensures { result ≡ lexemes.type_of token.now }
-{
-    if same_kind(token.kind, LexemeKind::Word) {
-        type_named(token.text.as_str())
-    } else {
-        None
     }
 }
