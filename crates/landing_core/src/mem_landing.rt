@@ -1,6 +1,10 @@
 // Landing folders in memory, some of whose calls fail.
-ghost use Rattle.std.specs.Prelude.{◌≡◌, ◌++◌, [], OnOk, OnErr};
-ghost use Rattle.landing_core.specs.Folders.{bytes_of, with_file, without_file, SameFiles, HoldsPresent};
+ghost use Rattle.std.specs.Prelude.{◌≡◌, ◌↔◌, ◌+◌, ◌≤◌, ◌++◌, [], length, slice_range, IfOk, IsErr, IsErrOf, OnOk, OnErr};
+ghost use Rattle.disk_model.specs.Failing.{next_number, IsListed};
+ghost use Rattle.disk_model.specs.Faults.{HasCause, HasCauseOf};
+ghost use Rattle.landing_core.specs.Folders.{AreThere, bytes_of, listed_names, listing_of, with_file, without_file, SameFiles, HoldsPresent};
+ghost use Rattle.landing_core.specs.MemLanding.{landing_failing, landing_made};
+ghost use Rattle.landing_core.specs.Names.{AreAscending};
 
 use crate::landing::{Landing, ListEnd, Listing};
 use crate::sure_landing::SureLanding;
@@ -22,6 +26,8 @@ impl MemLanding {
         ensures present { ⟦<MemLanding as Landing>⟧.present result ≡ [] }
         ensures ever { ⟦<MemLanding as Landing>⟧.ever result ≡ [] }
         ensures faults { ⟦<MemLanding as Landing>⟧.faults result ≡ 0 }
+        ensures made { landing_made result ≡ 0 }
+        ensures failing { landing_failing result ≡ failing.items }
     {
         MemLanding {
             inner: SureLanding::new(alloc),
@@ -37,6 +43,8 @@ impl MemLanding {
         ensures err_ever { OnErr result (⟦<MemLanding as Landing>⟧.ever self.new ≡ ⟦<MemLanding as Landing>⟧.ever self.old) }
         ensures kept { HoldsPresent (⟦<MemLanding as Landing>⟧.present self.new) (⟦<MemLanding as Landing>⟧.ever self.new) }
         ensures faults { ⟦<MemLanding as Landing>⟧.faults self.new ≡ ⟦<MemLanding as Landing>⟧.faults self.old }
+        ensures made { landing_made self.new ≡ landing_made self.old }
+        ensures failing { landing_failing self.new ≡ landing_failing self.old }
     {
         self.inner.put(dir, file, bytes)
     }
@@ -49,6 +57,8 @@ impl MemLanding {
         ensures err_ever { OnErr result (⟦<MemLanding as Landing>⟧.ever self.new ≡ ⟦<MemLanding as Landing>⟧.ever self.old) }
         ensures kept { HoldsPresent (⟦<MemLanding as Landing>⟧.present self.new) (⟦<MemLanding as Landing>⟧.ever self.new) }
         ensures faults { ⟦<MemLanding as Landing>⟧.faults self.new ≡ ⟦<MemLanding as Landing>⟧.faults self.old }
+        ensures made { landing_made self.new ≡ landing_made self.old }
+        ensures failing { landing_failing self.new ≡ landing_failing self.old }
     {
         self.inner.grow(dir, file, bytes)
     }
@@ -59,6 +69,8 @@ impl MemLanding {
         ensures ever { SameFiles (⟦<MemLanding as Landing>⟧.ever self.new) (⟦<MemLanding as Landing>⟧.ever self.old) }
         ensures kept { HoldsPresent (⟦<MemLanding as Landing>⟧.present self.new) (⟦<MemLanding as Landing>⟧.ever self.new) }
         ensures faults { ⟦<MemLanding as Landing>⟧.faults self.new ≡ ⟦<MemLanding as Landing>⟧.faults self.old }
+        ensures made { landing_made self.new ≡ landing_made self.old }
+        ensures failing { landing_failing self.new ≡ landing_failing self.old }
     {
         self.inner.remove(dir, file);
     }
@@ -77,14 +89,35 @@ impl Landing for MemLanding {
         self.failing.faults
     }
 
-    fn list(&mut self, alloc: Global, dir: &str) -> Result<Listing, ListEnd> {
+    // It fails exactly where its number is listed.
+    fn list(&mut self, alloc: Global, dir: &str) -> Result<Listing, ListEnd>
+        ensures fails { IsErrOf result ListEnd.Failed ↔ IsListed (landing_failing self.old) (landing_made self.old) }
+        ensures listing { IfOk result (λ listing. listing ≡ listing_of dir.now (⟦<SureLanding as Landing>⟧.present self.old.inner)) }
+        ensures there { IfOk result (λ listing. AreThere dir.now (⟦<SureLanding as Landing>⟧.present self.old.inner) listing) }
+        ensures ascending { IfOk result (λ listing. AreAscending (listed_names listing)) }
+        ensures made { landing_made self.new ≡ next_number (landing_made self.old) }
+        ensures failing { landing_failing self.new ≡ landing_failing self.old }
+        ensures present { ⟦<SureLanding as Landing>⟧.present self.new.inner ≡ ⟦<SureLanding as Landing>⟧.present self.old.inner }
+        ensures ever { ⟦<SureLanding as Landing>⟧.ever self.new.inner ≡ ⟦<SureLanding as Landing>⟧.ever self.old.inner }
+        ensures cause { HasCauseOf ListEnd.Failed self.old.failing.faults self.new.failing.faults result }
+    {
         match self.failing.turn() {
             Ok(()) => self.inner.list(alloc, dir),
             Err(_) => Err(ListEnd::Failed),
         }
     }
 
-    fn read_at(&mut self, dir: &str, file: &str, at: u64, into: &mut [u8]) -> Result<(), Failed> {
+    // It fails exactly where its number is listed.
+    fn read_at(&mut self, dir: &str, file: &str, at: u64, into: &mut [u8]) -> Result<(), Failed>
+        requires { at + length into.old ≤ length (bytes_of dir.now file.now (⟦<SureLanding as Landing>⟧.present self.old.inner)) }
+        ensures fails { IsErr result ↔ IsListed (landing_failing self.old) (landing_made self.old) }
+        ensures bytes { OnOk result (into.new ≡ slice_range (bytes_of dir.now file.now (⟦<SureLanding as Landing>⟧.present self.old.inner)) at (at + length into.old)) }
+        ensures made { landing_made self.new ≡ next_number (landing_made self.old) }
+        ensures failing { landing_failing self.new ≡ landing_failing self.old }
+        ensures present { ⟦<SureLanding as Landing>⟧.present self.new.inner ≡ ⟦<SureLanding as Landing>⟧.present self.old.inner }
+        ensures ever { ⟦<SureLanding as Landing>⟧.ever self.new.inner ≡ ⟦<SureLanding as Landing>⟧.ever self.old.inner }
+        ensures cause { HasCause self.old.failing.faults self.new.failing.faults result }
+    {
         self.failing.turn()?;
         self.inner.read_at(dir, file, at, into)
     }
