@@ -1,8 +1,11 @@
-use crate::{Definition, Payload, StoredBody, StoredFlow, StoredOrigin, Take, read, write};
+ghost use Rattle.std.specs.Prelude.{◌≡◌, true, IfOk};
+ghost use Rattle.commit_records.specs.Forms.{fits_its_body};
+
+use crate::{Definition, Payload, StoredBody, StoredFlow, StoredOrigin, read, write};
 use segment_rows::put_number;
 use std::alloc::Global;
 use std::test::Fail;
-use value_core::{Change, Column, Cursor, FilePlace, Kind, ListOf, Name, Row, Text, Value};
+use value_core::{Column, Kind, ListOf, Name, Text};
 
 /// A fresh table `t` with the text `x`, one BIGINT column `a` and a flow of its own name over the folder `in`.
 const DEFINE: [u8; 100] = [
@@ -21,7 +24,9 @@ fn name(alloc: Global, text: &str) -> Result<Name, Fail> {
     Ok(Name::new(alloc, text)?)
 }
 
-fn table(alloc: Global) -> Result<Definition, Fail> {
+fn table(alloc: Global) -> Result<Definition, Fail>
+    ensures { IfOk result (λ table. fits_its_body table ≡ true) }
+{
     let mut columns = ListOf::new(alloc);
     columns.push(Column {
         name: name(alloc, "a")?,
@@ -51,12 +56,7 @@ fn a_definition_has_its_bytes(rt: HostRuntime) -> Result<(), Fail> {
     list.push(table(alloc)?)?;
     let bytes = write(alloc, &Payload::Define { fresh: true, list })?;
     assert!(rt; bytes.as_slice() == DEFINE.as_slice());
-    assert!(rt;
-        matches!(
-            read(alloc, &bytes)?,
-            Some(Payload::Define { fresh: true, .. })
-        )
-    );
+    assert!(rt; is_spelling(alloc, &bytes)?);
     Ok(())
 }
 
@@ -94,74 +94,55 @@ const TWICE: [u8; 42] = [
     0, 0, 1, b'f', 0, 0, 0, 0, 0, 0, 0, 19,
 ];
 
-#[test]
-fn a_batch_has_its_bytes(rt: HostRuntime) -> Result<(), Fail> {
-    let alloc = rt.alloc();
-    let mut places = ListOf::new(alloc);
-    places.push(FilePlace {
-        file: Text::new(alloc, "f")?,
-        place: 19,
-    })?;
-    let mut row: Row = ListOf::new(alloc);
-    row.push(Value::Big(5))?;
-    let mut added = ListOf::new(alloc);
-    added.push(row)?;
-    let change = Change::new(ListOf::new(alloc), added).ok_or("one row is in order")?;
-    let take = Take {
-        table: name(alloc, "t")?,
-        flow: name(alloc, "t")?,
-        cursor: Cursor::Files(places),
-        change,
-        counts: ListOf::new(alloc),
-        events: ListOf::new(alloc),
-    };
-    let bytes = write(alloc, &Payload::Take(take))?;
-    let wanted = batch(alloc, &PLACE, &[], &[5])?;
-    assert!(rt; bytes.as_slice() == wanted.as_slice());
-    let Some(Payload::Take(again)) = read(alloc, &bytes)? else {
-        return Err("it is a batch".into());
-    };
-    assert!(rt; again.table.as_str() == "t");
-    let row = again
-        .change
-        .added
-        .as_slice()
-        .first()
-        .ok_or("one row is added")?;
-    assert!(rt; row.as_slice().first() == Some(&Value::Big(5)));
-    Ok(())
+fn is_spelling(alloc: Global, bytes: &[u8]) -> Result<bool, Fail> {
+    Ok(read(alloc, bytes)?.is_some())
 }
 
 #[test]
 fn what_is_malformed_is_no_spelling(rt: HostRuntime) -> Result<(), Fail> {
     let alloc = rt.alloc();
-    let sound = batch(alloc, &PLACE, &[4], &[5, 5])?;
-    assert!(rt; read(alloc, &sound)?.is_some());
-    let mut short = sound.clone()?;
-    short.pop();
-    assert!(rt; read(alloc, &short)?.is_none());
-    assert!(rt; read(alloc, &batch(alloc, &AT_ZERO, &[4], &[5])?)?.is_none());
-    assert!(rt; read(alloc, &batch(alloc, &TWICE, &[4], &[5])?)?.is_none());
-    assert!(rt; read(alloc, &batch(alloc, &PLACE, &[5], &[5])?)?.is_none());
-    assert!(rt; read(alloc, &batch(alloc, &PLACE, &[], &[5, 4])?)?.is_none());
-    // The format, the payload's kind, a name that is no UTF-8, and a count of 2 ^ 63 places.
-    let wrong = [(0, 2), (1, 3), (10, 0x80), (21, 0x80)];
-    for (at, byte) in &wrong {
-        let mut bytes = sound.clone()?;
-        if let Some(place) = bytes.get_mut(*at) {
-            *place = *byte;
-        }
-        assert!(rt; read(alloc, &bytes)?.is_none());
+    let cases: [(&[u8], &[u64], &[u64]); 4] = [
+        (&AT_ZERO, &[4], &[5]),
+        (&TWICE, &[4], &[5]),
+        (&PLACE, &[5], &[5]),
+        (&PLACE, &[], &[5, 4]),
+    ];
+    for (places, removed, added) in &cases {
+        let bytes = batch(alloc, places, removed, added)?;
+        assert!(rt; !is_spelling(alloc, &bytes)?);
     }
-    let mut long = sound.clone()?;
-    long.push(0)?;
-    assert!(rt; read(alloc, &long)?.is_none());
-    assert!(rt;
-        read(
-            alloc,
-            &[1, 4, 0, 0, 0, 0, 0, 0, 0, 1, 0, 0, 0, 0, 0, 0, 0, 1, b't']
-        )?
-        .is_none()
-    );
+    Ok(())
+}
+
+/// A batch with another byte at one place.
+fn changed(alloc: Global, at: usize, byte: u8) -> Result<Vec<u8>, Fail> {
+    let mut bytes = batch(alloc, &PLACE, &[4], &[5, 5])?;
+    if let Some(place) = bytes.get_mut(at) {
+        *place = byte;
+    }
+    Ok(bytes)
+}
+
+#[test]
+fn one_wrong_byte_is_no_spelling(rt: HostRuntime) -> Result<(), Fail> {
+    let alloc = rt.alloc();
+    // The format, which payload, a name that is no UTF-8, and a count of 2 ^ 63 places.
+    for (at, byte) in &[(0, 2), (1, 3), (10, 0x80), (21, 0x80)] {
+        let bytes = changed(alloc, *at, *byte)?;
+        assert!(rt; !is_spelling(alloc, &bytes)?);
+    }
+    Ok(())
+}
+
+#[test]
+fn a_byte_too_many_or_too_few_is_no_spelling(rt: HostRuntime) -> Result<(), Fail> {
+    let alloc = rt.alloc();
+    let mut bytes = batch(alloc, &PLACE, &[4], &[5, 5])?;
+    assert!(rt; matches!(read(alloc, &bytes)?, Some(Payload::Take(_))));
+    bytes.push(0)?;
+    assert!(rt; !is_spelling(alloc, &bytes)?);
+    bytes.pop();
+    bytes.pop();
+    assert!(rt; !is_spelling(alloc, &bytes)?);
     Ok(())
 }
