@@ -12,6 +12,7 @@ pub(crate) struct Faults {
 }
 
 impl Faults {
+    /// No failure yet.
     pub fn new() -> Faults
         ensures { result.count ≡ 0 }
     {

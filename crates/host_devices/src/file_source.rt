@@ -18,6 +18,7 @@ pub struct FileSource<'a, R: Files> {
 }
 
 impl<'a, R: Files> FileSource<'a, R> {
+    /// An input from the file at this path, which is opened at the first read.
     pub fn new(rt: &'a R, path: &'a str) -> FileSource<'a, R> {
         FileSource {
             rt,

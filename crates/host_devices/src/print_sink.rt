@@ -14,6 +14,7 @@ pub struct PrintSink<'a, R> {
 }
 
 impl<'a, R: Print> PrintSink<'a, R> {
+    /// The standard output.
     pub fn new(rt: &'a R) -> PrintSink<'a, R> {
         PrintSink {
             rt,

@@ -62,6 +62,7 @@ fn made(binds: u8) -> u8
     if binds == 5 { 4 } else { binds }
 }
 
+/// A reader of expressions, over a reader of the expressions that nest in them.
 #[derive(Clone, Copy)]
 pub struct Grammar<F> {
     pub alloc: Global,

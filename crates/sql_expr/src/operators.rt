@@ -16,6 +16,8 @@ pub enum Function {
     Max,
 }
 
+/// How tightly a token binds as an operator: 1 OR, 2 AND, 5 what makes a test, 6 sums, 7 products, 9 a
+/// parenthesis behind a word, and 0 for no operator.
 pub fn binds(kind: LexemeKind) -> u8
     ensures { result ≡ spec.binds kind }
 {
@@ -39,6 +41,7 @@ pub fn binds(kind: LexemeKind) -> u8
     }
 }
 
+/// The operator of two operands that a token is. `None` where it is none.
 pub fn operator(kind: LexemeKind) -> Option<SqlOp>
     ensures { result ≡ spec.operator kind }
 {

@@ -30,6 +30,7 @@ impl<'a> Model for Reader<'a> {
 }
 
 impl<'a> Reader<'a> {
+    /// At the first of these tokens.
     pub fn new(tokens: &'a [Lexeme]) -> Reader<'a>
         ensures { result ≡ tokens.now }
     {

@@ -9,6 +9,7 @@ use sql_tree::{Lexeme, LexemeKind, OptionValue, SqlType, same_kind};
 use std::alloc::{AllocError, Global};
 use value_core::{Name, Text};
 
+/// Whether a token is this word, in any case of letters, and not in backquotes.
 pub fn is_bare(word: &str, token: &Lexeme) -> bool
     ensures { result ≡ lexemes.is_bare word.now token.now }
 {
@@ -37,6 +38,7 @@ fn type_named(word: &str) -> Option<SqlType>
     }
 }
 
+/// The type that a word names, in any case of letters: BOOLEAN, INT or INTEGER, BIGINT or LONG, STRING.
 pub fn type_of(token: &Lexeme) -> Option<SqlType>
     ensures { result ≡ lexemes.type_of token.now }
 {
@@ -47,6 +49,7 @@ pub fn type_of(token: &Lexeme) -> Option<SqlType>
     }
 }
 
+/// Whether a token is of the wanted kind. `None` where it is another.
 pub fn the(token: &Lexeme, wanted: LexemeKind) -> Option<()>
     ensures { result ≡ spec.the wanted token.now }
 {
@@ -57,6 +60,7 @@ pub fn the(token: &Lexeme, wanted: LexemeKind) -> Option<()>
     }
 }
 
+/// Whether a token is this word, in any case of letters. `None` where it is another.
 pub fn the_word(token: &Lexeme, word: &str) -> Option<()>
     ensures { result ≡ spec.the_word word.now token.now }
 {
@@ -69,6 +73,7 @@ fn is_name(token: &Lexeme) -> bool
     same_kind(token.kind, LexemeKind::Word) || same_kind(token.kind, LexemeKind::Quoted)
 }
 
+/// The name that a token is: a word that is not reserved, or a name in backquotes. `None` where it is none.
 pub fn name_of(alloc: Global, token: &Lexeme) -> Result<Option<Name>, AllocError>
     ensures { IfOk result (λ name. name ≡ spec.name_of token.now) }
 {
@@ -78,6 +83,7 @@ pub fn name_of(alloc: Global, token: &Lexeme) -> Result<Option<Name>, AllocError
     Ok(Some(Name::new(alloc, token.text.as_str())?))
 }
 
+/// The characters of a string. `None` where the token is no string.
 pub fn string_of(alloc: Global, token: &Lexeme) -> Result<Option<Text>, AllocError>
     ensures { IfOk result (λ text. text ≡ spec.string_of token.now) }
 {
@@ -115,6 +121,7 @@ fn is_any_word(kind: LexemeKind) -> bool
     }
 }
 
+/// The word of an option, reserved or not, as it is spelled. `None` where the token is no word.
 pub fn option_word_of(alloc: Global, token: &Lexeme) -> Result<Option<Name>, AllocError>
     ensures { IfOk result (λ name. name ≡ spec.option_word_of token.now) }
 {
@@ -124,6 +131,7 @@ pub fn option_word_of(alloc: Global, token: &Lexeme) -> Result<Option<Name>, All
     Ok(Some(Name::new(alloc, token.text.as_str())?))
 }
 
+/// What an option is set to: a string, TRUE or FALSE. `None` where the token is something else.
 pub fn value_of(alloc: Global, token: &Lexeme) -> Result<Option<OptionValue>, AllocError>
     ensures { IfOk result (λ value. value ≡ spec.value_of token.now) }
 {
@@ -139,6 +147,7 @@ pub fn value_of(alloc: Global, token: &Lexeme) -> Result<Option<OptionValue>, Al
     Ok(None)
 }
 
+/// The type of a slowly changing dimension, 1 or 2. `None` where the token is something else.
 pub fn scd_of(token: &Lexeme) -> Option<u8>
     ensures { result ≡ spec.scd_of token.now }
 {
