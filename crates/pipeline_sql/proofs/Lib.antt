@@ -1,0 +1,10 @@
+pub mod Good
+pub mod Lists
+pub mod Window
+pub mod Firsts
+pub mod Parts
+pub mod Queries
+pub mod Statements
+pub mod Pipelines
+pub mod Answers
+pub mod Prints

@@ -1,0 +1,15 @@
+//! Pipelines from tokens: the statements of the language, their grammar and their reader.
+#![tactic(auto)]
+
+mod entry;
+mod error;
+mod laws;
+mod outermost;
+mod part;
+mod query;
+mod statement;
+mod token;
+
+pub use entry::read_tokens;
+pub use error::{ParseError, Refusal};
+pub use laws::print_is_read;
