@@ -13,3 +13,6 @@ mod token;
 pub use entry::read_tokens;
 pub use error::{ParseError, Refusal};
 pub use laws::print_is_read;
+
+#[cfg(test)]
+mod tests;
