@@ -1,0 +1,4 @@
+pub mod WordLemmas
+pub mod EscapeLemmas
+pub mod PutLemmas
+pub mod Prints
