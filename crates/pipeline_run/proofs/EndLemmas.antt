@@ -3,9 +3,9 @@ use Rattle.std.proofs.Common.{◌≡◌, ◌≢◌, inl, inr, Bool, true, false,
 use Rattle.disk_model.specs.Faults.{Rose}
 use Rattle.landing_core.specs.declared.landing.Listed.{Listed}
 use Rattle.landing_core.specs.Places.{place_of}
-use Rattle.store_core.specs.declared.store.Store.{Store}
-use Rattle.store_core.specs.Reading.{stored}
-use Rattle.store_core.specs.Spelling.{spelling}
+use Rattle.plain_store.specs.declared.store.Store.{Store}
+use Rattle.plain_store.specs.Reading.{stored}
+use Rattle.plain_store.specs.Spelling.{spelling}
 use Rattle.pipeline_run.specs.declared.command.Command.{Command}
 use Rattle.pipeline_run.specs.declared.command.Command.TheVariants as command
 use Rattle.pipeline_run.specs.declared.outcome.Outcome.{Outcome}

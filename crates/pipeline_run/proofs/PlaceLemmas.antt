@@ -8,8 +8,8 @@ use Rattle.std.specs.Cmp.Lexicographic.{slice_cmp}
 use Rattle.value_core.specs.declared.cursor.FilePlace.{FilePlace}
 use Rattle.landing_core.specs.Names.{AreAscending, IsBefore}
 use Rattle.landing_core.specs.Places.{AreAboveZero, placed_names}
-use Rattle.store_core.specs.declared.store.Store.{Store}
-use Rattle.store_core.specs.Valid.{ascend, ascend_from, all_changes, IsStore}
+use Rattle.plain_store.specs.declared.store.Store.{Store}
+use Rattle.plain_store.specs.Valid.{ascend, ascend_from, all_changes, IsStore}
 
 both_true : (a b : Bool) → (a && b) ≡ true → (a ≡ true) × (b ≡ true)
 both_true true b e = (refl, e)

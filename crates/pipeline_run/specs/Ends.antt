@@ -1,9 +1,9 @@
 -- How runs end over devices that don't fail.
 use Rattle.std.specs.Prelude.{◌≡◌, ℕ, ◌≤◌, List, [], ◌∷◌, length, take, true, Option, Some, None}
 use Rattle.disk_model.specs.Faults.{Rose}
-use Rattle.store_core.specs.declared.store.Store.{Store}
-use Rattle.store_core.specs.Reading.{stored}
-use Rattle.store_core.specs.Spelling.{spelling}
+use Rattle.plain_store.specs.declared.store.Store.{Store}
+use Rattle.plain_store.specs.Reading.{stored}
+use Rattle.plain_store.specs.Spelling.{spelling}
 use Rattle.pipeline_run.specs.declared.command.Command.{Command}
 use Rattle.pipeline_run.specs.declared.command.Command.TheVariants as command
 use Rattle.pipeline_run.specs.declared.outcome.Status.{Status}

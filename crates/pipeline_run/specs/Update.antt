@@ -9,10 +9,10 @@ use Rattle.landing_core.specs.declared.lines.FreshLine.{FreshLine}
 use Rattle.landing_core.specs.Folders.{listing_of}
 use Rattle.landing_core.specs.Fresh as fresh
 use Rattle.landing_core.specs.Places.{place_of}
-use Rattle.store_core.specs.declared.store.Store.{Store}
-use Rattle.store_core.specs.Order.{in_value_order}
-use Rattle.store_core.specs.Reading.{stored}
-use Rattle.store_core.specs.Spelling.{spelling}
+use Rattle.plain_store.specs.declared.store.Store.{Store}
+use Rattle.plain_store.specs.Order.{in_value_order}
+use Rattle.plain_store.specs.Reading.{stored}
+use Rattle.plain_store.specs.Spelling.{spelling}
 use Rattle.pipeline_run.specs.declared.outcome.Outcome.{Outcome}
 use Rattle.pipeline_run.specs.declared.outcome.Outcome.TheVariants.{Usage, NotSupported, TextFailed, Foreign, Full, DiskFailed, Completed, Current, Shrunk, LandingFailed}
 use Rattle.pipeline_run.specs.JsonLine.{values_of}

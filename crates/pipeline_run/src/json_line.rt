@@ -2,12 +2,12 @@
 ghost use Rattle.std.specs.Prelude.{◌≡◌, IfOk, length};
 ghost use Rattle.pipeline_run.specs.JsonLine.{value_of_data, value_of, values_of};
 ghost use Rattle.serde_json.specs.View.{view};
-ghost use Rattle.store_core.specs.Order.{in_value_order};
+ghost use Rattle.plain_store.specs.Order.{in_value_order};
 
 use landing_core::FreshLine;
 use serde_json::Value as Json;
 use std::alloc::{AllocError, Global};
-use store_core::sort_values;
+use plain_store::sort_values;
 use value_core::Value;
 
 /// The column that is read.

@@ -1,5 +1,5 @@
 ghost use Rattle.std.specs.Prelude.{◌≡◌, ℕ, List, Option};
-ghost use Rattle.store_core.specs.declared.store.Store.{Store};
+ghost use Rattle.plain_store.specs.declared.store.Store.{Store};
 ghost use Rattle.pipeline_run.specs.declared.command.Command.{Command};
 ghost use Rattle.pipeline_run.specs.declared.outcome.Status.{Status};
 ghost use Rattle.pipeline_run.specs.declared.outcome.Status.TheVariants as status;

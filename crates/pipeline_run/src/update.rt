@@ -1,7 +1,7 @@
 // One update: what is new in the folder goes into the store's file.
 ghost use Rattle.std.specs.Prelude.{◌≡◌, ◌≤◌, ◌≢◌, Ok, length, OnOk, OnErr, IfOk};
 ghost use Rattle.disk_model.specs.Faults.{HasCause, HasCauseOf, Rose};
-ghost use Rattle.store_core.specs.Valid.{IsStore};
+ghost use Rattle.plain_store.specs.Valid.{IsStore};
 ghost use Rattle.pipeline_run.specs.Update.{Found, Interrupted, Commits, FlowEnds, Updates, IsOfCommit, IsOfUpdate};
 
 use crate::json_line::change_of_lines;
@@ -10,7 +10,7 @@ use crate::pipeline::Fault;
 use disk_model::{Disk, Failed, Side};
 use landing_core::{Fresh, Landing, LineEnd, ListEnd, fresh_lines, is_same_places};
 use std::alloc::{AllocError, Global};
-use store_core::{Store, read, spell};
+use plain_store::{Store, read, spell};
 use value_core::{Format, ListOf};
 
 /// The folder that the pipeline reads.

@@ -21,6 +21,7 @@ impl<T> Model for ListOf<T> {
 }
 
 impl<T> ListOf<T> {
+    /// The empty list. It keeps the allocator that it grows by, and takes no memory yet.
     pub fn new(alloc: Global) -> ListOf<T>
         ensures { result ≡ [] }
     {
@@ -29,12 +30,14 @@ impl<T> ListOf<T> {
         }
     }
 
+    /// The list of the items of a `Vec`. Takes no memory.
     pub fn from_vec(items: Vec<T>) -> ListOf<T>
         ensures { result ≡ items.items }
     {
         ListOf { items }
     }
 
+    /// The items as a `Vec`. Takes no memory.
     pub fn into_vec(self) -> Vec<T>
         ensures { result.items ≡ self }
     {
@@ -42,18 +45,21 @@ impl<T> ListOf<T> {
         items
     }
 
+    /// The items in order.
     pub fn as_slice(&self) -> &[T]
         ensures { result.now ≡ self.now }
     {
         self.items.as_slice()
     }
 
+    /// How many items there are.
     pub fn len(&self) -> usize
         ensures { result ≡ length self.now }
     {
         self.items.len()
     }
 
+    /// Whether there is no item.
     pub fn is_empty(&self) -> bool
         ensures { result ≡ (length self.now == 0) }
     {
@@ -62,6 +68,7 @@ impl<T> ListOf<T> {
 }
 
 impl<T: Drop> ListOf<T> {
+    /// Puts an item behind the others. After a failure, for want of memory alone, the list is as before and the item is gone.
     pub fn push(&mut self, item: T) -> Result<(), AllocError>
         ensures ok { OnOk result (self.new ≡ self.old ++ item ∷ []) }
         ensures err { OnErr result (self.new ≡ self.old) }

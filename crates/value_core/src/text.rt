@@ -19,6 +19,7 @@ impl Model for Text {
 }
 
 impl Text {
+    /// A copy of a text. Fails for want of memory alone.
     pub fn new(alloc: Global, text: &str) -> Result<Text, AllocError>
         ensures { IfOk result (λ copy. copy ≡ text.now) }
     {
@@ -27,18 +28,21 @@ impl Text {
         })
     }
 
+    /// The text of a `String`. Takes no memory.
     pub fn from_string(text: String) -> Text
         ensures { result ≡ string_bytes text }
     {
         Text { text }
     }
 
+    /// The text.
     pub fn as_str(&self) -> &str
         ensures { result.now ≡ self.now }
     {
         self.text.as_str()
     }
 
+    /// An equal value. Fails for want of memory alone.
     pub fn copy(&self, alloc: Global) -> Result<Text, AllocError>
         ensures { IfOk result (λ copy. copy ≡ self.now) }
     {
@@ -70,6 +74,7 @@ impl Model for Name {
 }
 
 impl Name {
+    /// A copy of a name's spelling. Fails for want of memory alone.
     pub fn new(alloc: Global, text: &str) -> Result<Name, AllocError>
         ensures { IfOk result (λ copy. copy ≡ text.now) }
     {
@@ -78,18 +83,21 @@ impl Name {
         })
     }
 
+    /// The name as it was spelled.
     pub fn as_str(&self) -> &str
         ensures { result.now ≡ self.now }
     {
         self.text.as_str()
     }
 
+    /// The name that a `String` spells. Takes no memory.
     pub fn from_string(text: String) -> Name
         ensures { result ≡ string_bytes text }
     {
         Name { text }
     }
 
+    /// An equal value. Fails for want of memory alone.
     pub fn copy(&self, alloc: Global) -> Result<Name, AllocError>
         ensures { IfOk result (λ copy. copy ≡ self.now) }
     {

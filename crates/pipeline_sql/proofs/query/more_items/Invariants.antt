@@ -1,9 +1,0 @@
-use Rattle.std.proofs.Common.{◌≡◌, ◌-◌, [], length}
-use Rattle.sql_tree.specs.declared.lexeme.LexemeKind.TheVariants as k
-use Rattle.pipeline_sql.specs.Descent.{item_of}
-use Rattle.pipeline_sql.specs.Parsers.{rest_from}
-use Rattle.pipeline_sql.specs.Limits.{limited}
-use Rattle.pipeline_sql.proofs.query.more_items.Given as goal
-
-abbrev pub invariant-loop-turn : goal.invariant-loop-turn
-invariant-loop-turn l = rest_from k.Comma (item_of limited) (length l.fn.reader) l.fn.first l.fn.reader ≡ rest_from k.Comma (item_of limited) (l._turn-end - l._turn) l.found l.reader

@@ -1,0 +1,58 @@
+use std::alloc::AllocError;
+use std::error::Error;
+use std::fmt;
+
+/// Why a part of a pipeline was not read.
+#[derive(Clone, Copy, Debug, PartialEq, Eq)]
+pub enum ParseError {
+    Memory,
+    /// The reader stands at a token with which no pipeline goes on.
+    Unexpected,
+    /// The reader stands at a token that would go on an outermost expression past the most tokens.
+    TooLong,
+}
+
+impl fmt::Display for ParseError {
+    fn fmt<W: fmt::Write>(&self, f: &mut fmt::Formatter<W>) -> fmt::Result {
+        f.write_str(match self {
+            ParseError::Memory => "out of memory",
+            ParseError::Unexpected => "unexpected token",
+            ParseError::TooLong => "expression too long",
+        })
+    }
+}
+
+impl Error for ParseError {}
+
+impl From<AllocError> for ParseError {
+    ghost use Rattle.std.specs.Prelude.{◌≡◌};
+    ghost use Rattle.sql_statements.specs.declared.error.ParseError.TheVariants.{Memory};
+
+    ghost from_gives = { λ _ e. e ≡ Memory };
+
+    fn from(_: AllocError) -> ParseError {
+        ParseError::Memory
+    }
+}
+
+/// Why tokens are no pipeline. Places count tokens from 0.
+#[derive(Clone, Copy, Debug, PartialEq, Eq)]
+pub enum Refusal {
+    Memory,
+    /// No pipeline goes on with the token at this place, or none ends at the end.
+    Unexpected { at: usize },
+    /// The token at this place goes on an outermost expression past the most tokens.
+    TooLong { at: usize },
+}
+
+impl fmt::Display for Refusal {
+    fn fmt<W: fmt::Write>(&self, f: &mut fmt::Formatter<W>) -> fmt::Result {
+        match self {
+            Refusal::Memory => f.write_str("out of memory"),
+            Refusal::Unexpected { at } => write!(f, "unexpected token {at}"),
+            Refusal::TooLong { at } => write!(f, "expression too long at token {at}"),
+        }
+    }
+}
+
+impl Error for Refusal {}
