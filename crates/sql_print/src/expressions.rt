@@ -9,6 +9,7 @@ use crate::writer::Writer;
 use sql_tree::{LexemeKind, SqlArm, SqlExpr, SqlOp, SqlType};
 use std::alloc::{AllocError, Global};
 
+/// The lexeme of an operator.
 fn operator(op: SqlOp) -> LexemeKind
     ensures value { result ≡ print.operator op }
     ensures plain { IsPlain result }
@@ -31,6 +32,7 @@ fn operator(op: SqlOp) -> LexemeKind
     }
 }
 
+/// The word of a type: BOOLEAN, INT, BIGINT or STRING.
 pub fn type_word(out: &mut Writer, kind: SqlType) -> Result<(), AllocError>
     ensures { OnOk result (out.new ≡ put out.old (print.type_word kind)) }
 {
@@ -42,6 +44,7 @@ pub fn type_word(out: &mut Writer, kind: SqlType) -> Result<(), AllocError>
     }
 }
 
+/// TRUE or FALSE.
 pub fn truth(out: &mut Writer, is_true: bool) -> Result<(), AllocError>
     ensures { OnOk result (out.new ≡ put out.old (print.token (if is_true then LexemeKind.True else LexemeKind.False))) }
 {
@@ -52,6 +55,7 @@ pub fn truth(out: &mut Writer, is_true: bool) -> Result<(), AllocError>
     }
 }
 
+/// The digits of a literal, with `-` directly before them where it is negative.
 fn literal(out: &mut Writer, alloc: Global, number: i64) -> Result<(), AllocError>
     ensures { OnOk result (out.new ≡ puts out.old (print.literal number)) }
 {
@@ -88,6 +92,7 @@ fn is_plain_number(tree: &SqlExpr) -> bool
     }
 }
 
+/// CAST or TRY_CAST, and the parenthesis behind it.
 fn cast(out: &mut Writer, trying: bool) -> Result<(), AllocError>
     ensures { OnOk result (out.new ≡ put out.old (print.token (if trying then LexemeKind.TryCast else LexemeKind.Cast))) }
 {
@@ -107,6 +112,7 @@ fn open_call(out: &mut Writer, function: &str) -> Result<(), AllocError>
 }
 
 /// The print of an expression. Operators, tests and NOT stand in parentheses.
+/// An expression: each operator, test and NOT in parentheses of its own.
 #[cycle(print)]
 pub fn expr(out: &mut Writer, alloc: Global, tree: &SqlExpr) -> Result<(), AllocError>
     ensures { OnOk result (out.new ≡ puts out.old (print.expr_print tree.now)) }
@@ -234,6 +240,7 @@ pub fn expr(out: &mut Writer, alloc: Global, tree: &SqlExpr) -> Result<(), Alloc
 }
 
 /// Expressions with a comma between two of them.
+/// Expressions with commas between them.
 #[cycle(print)]
 pub fn exprs(out: &mut Writer, alloc: Global, list: &[SqlExpr]) -> Result<(), AllocError>
     ensures { OnOk result (out.new ≡ puts out.old (print.separated (map print.expr_print list.now))) }
@@ -247,6 +254,7 @@ pub fn exprs(out: &mut Writer, alloc: Global, list: &[SqlExpr]) -> Result<(), Al
     Ok(())
 }
 
+/// The WHEN and THEN of each arm.
 #[cycle(print)]
 fn case_arms(out: &mut Writer, alloc: Global, arms: &[SqlArm]) -> Result<(), AllocError>
     ensures { OnOk result (out.new ≡ puts out.old (print.all_of (map print.arm_print arms.now))) }

@@ -13,6 +13,7 @@ use std::alloc::{AllocError, Global};
 use std::marker::Model;
 use value_core::{Name, Text};
 
+/// A text that grows by lexemes, with the kinds of the last two: they say whether a space belongs before the next.
 #[derive(Drop)]
 pub struct Writer {
     text: String,
@@ -29,6 +30,7 @@ impl Model for Writer {
 }
 
 impl Writer {
+    /// A writer of the empty text. Takes no memory yet.
     pub fn new(alloc: Global) -> Writer
         ensures { result ≡ nothing }
     {
@@ -39,6 +41,7 @@ impl Writer {
         }
     }
 
+    /// The text that was written.
     pub fn into_text(self) -> Text
         ensures { result ≡ self.text }
     {
@@ -46,12 +49,14 @@ impl Writer {
         Text::from_string(text)
     }
 
+    /// Puts a piece of text behind the others.
     fn push(&mut self, more: &str) -> Result<(), AllocError>
         ensures { OnOk result (self.new ≡ extended self.old more.now) }
     {
         self.text.push_str(more)
     }
 
+    /// Puts the space that belongs before a lexeme of this kind.
     fn begin(&mut self, kind: LexemeKind) -> Result<(), AllocError>
         ensures { OnOk result (self.new ≡ begun self.old kind) }
     {
@@ -61,6 +66,7 @@ impl Writer {
         Ok(())
     }
 
+    /// A symbol or a reserved word.
     /// A symbol or a reserved word.
     #[tactic(auto, unfolding(crate::specs::Writing::put))]
     pub fn token(&mut self, kind: LexemeKind) -> Result<(), AllocError>
@@ -81,6 +87,7 @@ impl Writer {
     }
 
     /// A word that is not reserved, as it stands.
+    /// A word that isn't reserved, as it stands.
     #[tactic(auto, unfolding(crate::specs::Writing::put))]
     pub fn word(&mut self, word: &str) -> Result<(), AllocError>
         ensures { OnOk result (self.new ≡ put self.old (print.word word.now)) }
@@ -89,6 +96,7 @@ impl Writer {
         self.push(word)
     }
 
+    /// A name in backquotes.
     #[tactic(auto, unfolding(crate::specs::Writing::put))]
     fn quoted(&mut self, name: &str) -> Result<(), AllocError>
         ensures { OnOk result (self.new ≡ put self.old (record { kind = LexemeKind.Quoted; text = name.now; value = 0 })) }
@@ -99,6 +107,7 @@ impl Writer {
         self.push("`")
     }
 
+    /// A name: bare where it is a word that isn't reserved, else in backquotes.
     pub fn name(&mut self, name: &Name) -> Result<(), AllocError>
         ensures { OnOk result (self.new ≡ put self.old (print.name name.now)) }
     {
@@ -110,6 +119,7 @@ impl Writer {
     }
 
     /// The word of an option, reserved or not.
+    /// The word of an option, as it stands, reserved or not.
     #[tactic(auto, using(crate::proofs::WordLemmas::word_kind_spelling), unfolding(crate::specs::Writing::put))]
     pub fn option_word(&mut self, word: &Name) -> Result<(), AllocError>
         ensures { OnOk result (self.new ≡ put self.old (print.option_word word.now)) }
@@ -119,6 +129,7 @@ impl Writer {
         self.push(word.as_str())
     }
 
+    /// A string in single quotes, with `\'` and `\\` for `'` and `\`.
     #[tactic(auto, unfolding(crate::specs::Writing::put))]
     pub fn string(&mut self, text: &Text) -> Result<(), AllocError>
         ensures { OnOk result (self.new ≡ put self.old (print.string text.now)) }
@@ -129,6 +140,7 @@ impl Writer {
         self.push("'")
     }
 
+    /// A number in decimal digits.
     #[tactic(auto, unfolding(crate::specs::Writing::put))]
     pub fn number(&mut self, alloc: Global, value: u64) -> Result<(), AllocError>
         ensures { OnOk result (self.new ≡ put self.old (print.numeral value)) }
@@ -152,6 +164,7 @@ fn gap(second: LexemeKind, first: LexemeKind, next: LexemeKind) -> &'static str
     }
 }
 
+/// Whether a lexeme of this kind ends an operand, so that a `-` behind it subtracts.
 fn ends_operand(kind: LexemeKind) -> bool
     ensures { result ≡ ends_operand kind }
 {
@@ -169,6 +182,7 @@ fn ends_operand(kind: LexemeKind) -> bool
     }
 }
 
+/// Whether all bytes may stand in a word.
 fn are_word_bytes(mut bytes: &[u8]) -> bool
     ensures { result ≡ list_all (λ c. is_ascii_alphanumeric c || c == 95) bytes.entry.now }
 {
@@ -181,6 +195,7 @@ fn are_word_bytes(mut bytes: &[u8]) -> bool
     true
 }
 
+/// Whether the bytes are a word: a letter or `_`, then letters, digits and `_`.
 fn is_word_of(bytes: &[u8]) -> bool
     ensures { result ≡ is_word bytes.now }
 {
@@ -194,24 +209,28 @@ fn is_word_of(bytes: &[u8]) -> bool
     }
 }
 
+/// Whether a text is a word.
 fn is_word(text: &str) -> bool
     ensures { result ≡ is_word text.now }
 {
     is_word_of(text.as_bytes())
 }
 
+/// Whether a name needs no backquotes.
 fn is_bare_name(text: &str) -> bool
     ensures { result ≡ is_bare_name text.now }
 {
     is_word(text) && same_kind(word_kind(text.as_bytes()), LexemeKind::Word)
 }
 
+/// Whether a character stands behind a backslash in a string.
 fn needs_backslash(c: char) -> bool
     ensures { result ≡ (c == 39 || c == 92) }
 {
     c == '\'' || c == '\\'
 }
 
+/// Puts a character of a string, escaped where it has to be.
 #[tactic(auto, using(crate::proofs::EscapeLemmas::escaped_marked, crate::proofs::EscapeLemmas::escaped_plain))]
 fn push_char(text: &mut String, c: char) -> Result<(), AllocError>
     ensures { OnOk result (string_bytes text.new ≡ string_bytes text.old ++ escaped (encode_utf8 c)) }
@@ -225,6 +244,7 @@ fn push_char(text: &mut String, c: char) -> Result<(), AllocError>
 }
 
 /// A string's characters, with a backslash before each quote and each backslash.
+/// Puts the characters of a string, escaped where they have to be.
 #[tactic(auto, using(crate::proofs::EscapeLemmas::escaped_more))]
 fn push_escaped(text: &mut String, more: &str) -> Result<(), AllocError>
     ensures { OnOk result (string_bytes text.new ≡ string_bytes text.old ++ escaped more.now) }
