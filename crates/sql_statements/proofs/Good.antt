@@ -10,11 +10,14 @@ use Rattle.sql_phrases.specs.Parsers.{next, sees}
 use Rattle.sql_phrases.proofs.Phrases.{front, front_nil, front_cons, front_append, same_kinds}
 use Rattle.sql_phrases.proofs.Terminals.{kinds_alike, alike}
 use Rattle.sql_expr.specs.Operators.{binds}
+use Rattle.sql_expr.specs.Grammar.{IsExpr}
+use Rattle.sql_expr.proofs.Reading.{nonempty, no_star}
 use Rattle.sql_statements.specs.declared.error.ParseError.{ParseError}
 use Rattle.sql_statements.specs.declared.error.ParseError.TheVariants.{Memory, Unexpected, TooLong}
 use Rattle.sql_statements.specs.Languages.{Language, one, nothing, either, separated as Separated, ◌>>=◌ as ◌⨾◌}
 use Rattle.sql_statements.specs.Parsers.{Outcome, Parser, and_then, ◌>>=◌, pure, some_token, of_next, token, begins, choose, rest_from, separated}
-use Rattle.sql_statements.specs.Limits.{IsShort, IsMarked, mark, unlimited, limited, IsOpen, IsFull, Cut, Begun}
+use Rattle.sql_statements.specs.Limits.{IsShort, IsMarked, mark, AreTokens, unlimited, limited, IsOpen, IsFull, Cut, Begun}
+use Rattle.sql_statements.proofs.Marks.{tokens_before, tokens_behind, only_mark, not_empty, place, same_before, front_more}
 
 -- a language over the language of the outermost expressions
 abbrev pub Over : Type 0 → Type 1
@@ -178,6 +181,33 @@ Proper X = (w : List Lexeme) (x : SqlExpr) → X w x → (0 < length w) × (kind
 abbrev pub Completes : Parser SqlExpr → Language SqlExpr → Type 0
 Completes E X = ((w o : List Lexeme) (x : SqlExpr) → X w x → binds (kind o) < 1 → E (w ++ o) ≡ Ok (x, o)) × Proper X
 
+-- ---- where an expression stands at the mark
+
+pub short_in : Wider IsShort IsExpr
+short_in w x h = h.0
+
+pub exprs_proper : Proper IsExpr
+exprs_proper w x h = (nonempty h, no_star h)
+
+-- words without a mark
+abbrev pub Plain : {A : Type 0} → Over A → Type 0
+Plain {A} L = (w : List Lexeme) (x : A) → AreTokens w → L IsMarked w x → L IsShort w x
+
+-- tokens and then this expression begin a word
+abbrev pub Filled : {A : Type 0} → Over A → List Lexeme → List Lexeme → Type 0
+Filled {A} L u e = (rest : List Lexeme) × (z : A) × L IsExpr (u ++ (e ++ rest)) z
+
+-- where the first mark stands any expression may stand
+abbrev pub Fills : {A : Type 0} → Over A → Type 0
+Fills {A} L = (u more : List Lexeme) (x : A) → AreTokens u → L IsMarked (u ++ mark ∷ more) x → (e : List Lexeme) (y : SqlExpr) → IsExpr e y → Filled L u e
+
+-- Behind the tokens before the first mark the reader reads an outermost expression: it stops where that one does, if the
+-- next token begins an expression.
+abbrev pub Reaches : {A : Type 0} → Parser A → Over A → (List Lexeme → Type 0) → Type 0
+Reaches {A} P L F =
+    Completes limited IsShort → (u more : List Lexeme) (x : A) → AreTokens u → L IsMarked (u ++ mark ∷ more) x → (o : List Lexeme) → F o →
+    (i e : List Lexeme) (y : SqlExpr) → IsExpr e y → front i ≡ front e → (q : ParseError × List Lexeme) → limited i ≡ Err q → P (u ++ i) ≡ Err q
+
 -- The last is what may follow.
 pub record Good {A : Type 0} (P : Parser SqlExpr → Parser A) (L : Over A) (F : List Lexeme → Type 0) : Type 1 where
   pub completes : (E : Parser SqlExpr) (X : Language SqlExpr) → Completes E X → (w o : List Lexeme) (x : A) → L X w x → F o → P E (w ++ o) ≡ Ok (x, o)
@@ -185,12 +215,73 @@ pub record Good {A : Type 0} (P : Parser SqlExpr → Parser A) (L : Over A) (F :
   pub agrees : (i : List Lexeme) → Agrees (P limited i) (P unlimited i)
   pub some : (w : List Lexeme) × (x : A) × L IsShort w x
   pub wider : (X Y : Language SqlExpr) → Wider X Y → (w : List Lexeme) (x : A) → L X w x → L Y w x
+  pub plain : Plain L
+  pub fills : Fills L
+  pub reaches : Reaches (P limited) L F
 
 abbrev pub Any : List Lexeme → Type 0
 Any o = Unit {0}
 
 pub some_in : {A : Type 0} (P : Parser SqlExpr → Parser A) (L : Over A) (F : List Lexeme → Type 0) → Good P L F → (Y : Language SqlExpr) → Wider IsShort Y → (w : List Lexeme) × (x : A) × L Y w x
 some_in P L F g Y wide = (g.some.0, g.some.1, g.wider IsShort Y wide g.some.0 g.some.1 g.some.2)
+
+-- ---- the first mark, in one word after another
+
+pub plain_bind : {A B : Type 0} (L : Over A) (M : A → Over B) → Plain L → ((x : A) → Plain (M x)) → Plain (λ X. L X ⨾ (λ y. M y X))
+plain_bind L M g h w y tokens held =
+    let parts : AreTokens (held.0 ++ held.1) = subst AreTokens held.3 tokens in
+    (held.0, held.1, held.2, held.3, g held.0 held.2 (tokens_before held.0 held.1 parts) held.4, h held.2 held.1 y (tokens_behind held.0 held.1 parts) held.5)
+
+pub fills_bind : {A B : Type 0} (L : Over A) (M : A → Over B) → ((X Y : Language SqlExpr) → Wider X Y → (w : List Lexeme) (x : A) → L X w x → L Y w x) → Plain L → Fills L →
+    ((x : A) → Fills (M x)) → ((x : A) (Y : Language SqlExpr) → Wider IsShort Y → (w : List Lexeme) × (y : B) × M x Y w y) → Fills (λ X. L X ⨾ (λ y. M y X))
+fills_bind {A} {B} L M wider plain fills later some u more y tokens held e t is = ⊎_elim first second (place u more held.0 held.1 mark held.3)
+  where
+    first : ((r : List Lexeme) × (held.0 ≡ u ++ mark ∷ r) × (more ≡ r ++ held.1)) → Filled (λ X. L X ⨾ (λ y. M y X)) u e
+    first (r, p_is, more_is) =
+        let f = fills u r held.2 tokens (subst (λ z. L IsMarked z held.2) p_is held.4) e t is in
+        let s = some f.1 IsExpr short_in in
+        let split : u ++ (e ++ (f.0 ++ s.0)) ≡ (u ++ (e ++ f.0)) ++ s.0 = simp append_assoc in
+        (f.0 ++ s.0, s.1, (u ++ (e ++ f.0), s.0, f.1, split, f.2, s.2))
+
+    second : ((r : List Lexeme) × (u ≡ held.0 ++ r) × (held.1 ≡ r ++ mark ∷ more)) → Filled (λ X. L X ⨾ (λ y. M y X)) u e
+    second (r, u_is, q_is) =
+        let parts : AreTokens (held.0 ++ r) = subst AreTokens u_is tokens in
+        let f = later held.2 r more y (tokens_behind held.0 r parts) (subst (λ z. M held.2 IsMarked z y) q_is held.5) e t is in
+        (f.0, f.1, (held.0, r ++ (e ++ f.0), held.2, ap (λ z. z ++ (e ++ f.0)) u_is ∙ append_assoc held.0 r (e ++ f.0), wider IsShort IsExpr short_in held.0 held.2 (plain held.0 held.2 (tokens_before held.0 r parts) held.4), f.2))
+
+-- the reader's answer is the same whatever stands behind the next token
+again : {A : Type 0} (P : Parser A) (L : Over A) (p c d : List Lexeme) (x : A) → Meets (λ m. P) L (p ++ c) (P (p ++ c)) → P (p ++ c) ≡ Ok (x, c) → front d ≡ front c → P (p ++ d) ≡ Ok (x, d)
+again P L p c d x meets ok f =
+    let t : Taken (λ m. P) L (p ++ c) x c = subst (Meets (λ m. P) L (p ++ c)) ok meets in
+    ap (λ z. P (z ++ d)) (sym (same_before p t.word c t.split)) ∙ t.echoes (length (t.word ++ d)) d f (le_refl (length (t.word ++ d)))
+
+pub ahead : (r i e rest o : List Lexeme) → 0 < length e → front i ≡ front e → front (r ++ i) ≡ front ((r ++ (e ++ rest)) ++ o)
+ahead r i e rest o some f =
+    let split : (r ++ (e ++ rest)) ++ o ≡ r ++ (e ++ (rest ++ o)) = simp append_assoc in
+    front_append r i (e ++ (rest ++ o)) (f ∙ sym (front_more e (rest ++ o) some)) ∙ sym (ap front split)
+
+pub reaches_bind : {A B : Type 0} (P : Parser SqlExpr → Parser A) (Q : A → Parser B) (L : Over A) (M : A → Over B) (F G : List Lexeme → Type 0) → Good P L F → ((x : A) → Fills (M x)) →
+    ((X : Language SqlExpr) (x : A) (o : List Lexeme) → G o → (v : List Lexeme) (y : B) → M x X v y → F (v ++ o)) → Completes limited IsShort →
+    (u more : List Lexeme) (y : B) → AreTokens u → (L IsMarked ⨾ (λ x. M x IsMarked)) (u ++ mark ∷ more) y → (o : List Lexeme) → G o →
+    (i e : List Lexeme) (t : SqlExpr) → IsExpr e t → front i ≡ front e → (q : ParseError × List Lexeme) → limited i ≡ Err q →
+    ((x : A) (p r : List Lexeme) → u ≡ p ++ r → M x IsMarked (r ++ mark ∷ more) y → Q x (r ++ i) ≡ Err q) → and_then (P limited (u ++ i)) Q ≡ Err q
+reaches_bind P Q L M F G g fills follows all u more y tokens held o fits i e t is f q stops later = ⊎_elim first second (place u more held.0 held.1 mark held.3)
+  where
+    first : ((r : List Lexeme) × (held.0 ≡ u ++ mark ∷ r) × (more ≡ r ++ held.1)) → and_then (P limited (u ++ i)) Q ≡ Err q
+    first (r, p_is, more_is) =
+        ap (λ z. and_then z Q)
+        (g.reaches all u r held.2 tokens (subst (λ z. L IsMarked z held.2) p_is held.4) (held.1 ++ o) (follows IsMarked held.2 o fits held.1 y held.5) i e t is f q stops)
+
+    second : ((r : List Lexeme) × (u ≡ held.0 ++ r) × (held.1 ≡ r ++ mark ∷ more)) → and_then (P limited (u ++ i)) Q ≡ Err q
+    second (r, u_is, q_is) =
+        let parts : AreTokens (held.0 ++ r) = subst AreTokens u_is tokens in
+        let inside = subst (λ z. M held.2 IsMarked z y) q_is held.5 in
+        let w = fills held.2 r more y (tokens_behind held.0 r parts) inside e t is in
+        let c = (r ++ (e ++ w.0)) ++ o in
+        let read = g.completes limited IsShort all held.0 c held.2 (g.plain held.0 held.2 (tokens_before held.0 r parts) held.4) (follows IsExpr held.2 o fits (r ++ (e ++ w.0)) w.1 w.2) in
+        ap (λ z. and_then (P limited z) Q) (ap (λ z. z ++ i) u_is ∙ append_assoc held.0 r i)
+        ∙ ap (λ z. and_then z Q) (again (P limited) L held.0 c (r ++ i) held.2 (g.meets (held.0 ++ c)) read (ahead r i e w.0 o (nonempty is) f))
+        ∙ later held.2 held.0 r u_is inside
 
 pub good_bind : {A B : Type 0} (P : Parser SqlExpr → Parser A) (Q : A → Parser SqlExpr → Parser B) (L : Over A) (M : A → Over B) (F G : List Lexeme → Type 0) →
     Good P L F → ((x : A) → Good (Q x) (M x) G) → ((X : Language SqlExpr) (x : A) (o : List Lexeme) → G o → (v : List Lexeme) (y : B) → M x X v y → F (v ++ o)) →
@@ -206,6 +297,11 @@ good_bind P Q L M F G g h follows = record {
   agrees = λ i. agrees_bind (P limited i) (P unlimited i) (λ x. Q x limited) (λ x. Q x unlimited) (g.agrees i) (λ x o. (h x).agrees o);
   some = (g.some.0 ++ (h g.some.1).some.0, (h g.some.1).some.1, (g.some.0, (h g.some.1).some.0, g.some.1, refl, g.some.2, (h g.some.1).some.2));
   wider = λ X Y wide w y held. (held.0, held.1, held.2, held.3, g.wider X Y wide held.0 held.2 held.4, (h held.2).wider X Y wide held.1 y held.5);
+  plain = plain_bind L M g.plain (λ x. (h x).plain);
+  fills = fills_bind L M g.wider g.plain g.fills (λ x. (h x).fills) (λ x Y wide. some_in (Q x) (M x) G (h x) Y wide);
+  reaches = λ all u more y tokens held o fits i e t is f q stops.
+      reaches_bind P (λ x. Q x limited) L M F G g (λ x. (h x).fills) follows all u more y tokens held o fits i e t is f q stops
+      (λ x p r split inside. (h x).reaches all r more y (tokens_behind p r (subst AreTokens split tokens)) inside o fits i e t is f q stops);
 }
 
 pub good_pure : {A : Type 0} (a : A) (F : List Lexeme → Type 0) → Good (λ E. pure a) (λ X. nothing a) F
@@ -215,6 +311,9 @@ good_pure a F = record {
   agrees = λ i. inl refl;
   some = ([], a, (refl, refl));
   wider = λ X Y wide w x held. held;
+  plain = λ w x tokens held. held;
+  fills = λ u more x tokens held e t is. absurd (not_empty u more held.0);
+  reaches = λ all u more x tokens held o fits i e t is f q stops. absurd (not_empty u more held.0);
 }
 
 -- where fewer tokens may follow, and in another way to write it
@@ -228,6 +327,12 @@ good_as P Q L M F G g same to from less = record {
   agrees = λ i. subst (λ r. Agrees r (Q unlimited i)) (sym (same limited i)) (subst (λ r. Agrees (P limited i) r) (sym (same unlimited i)) (g.agrees i));
   some = (g.some.0, g.some.1, to IsShort g.some.0 g.some.1 g.some.2);
   wider = λ X Y wide w x held. to Y w x (g.wider X Y wide w x (from X w x held));
+  plain = λ w x tokens held. to IsShort w x (g.plain w x tokens (from IsMarked w x held));
+  fills = λ u more x tokens held e t is.
+      let w = g.fills u more x tokens (from IsMarked (u ++ mark ∷ more) x held) e t is in
+      (w.0, w.1, to IsExpr (u ++ (e ++ w.0)) w.1 w.2);
+  reaches = λ all u more x tokens held o fits i e t is f q stops.
+      same limited (u ++ i) ∙ g.reaches all u more x tokens (from IsMarked (u ++ mark ∷ more) x held) o (less o fits) i e t is f q stops;
 }
 
 -- ---- one token
@@ -261,14 +366,23 @@ token_is : {A : Type 0} (f : Lexeme → Option A) (i : List Lexeme) → token f 
 unfolding token
 token_is f i = refl
 
+no_token : {A : Type 0} (f : Lexeme → Option A) (u more : List Lexeme) (x : A) → f mark ≡ None → one f (u ++ mark ∷ more) x → ⊥
+no_token f u more x never held =
+    let only = only_mark u more held.0 held.1 in
+    let some = ap f (sym only.1) ∙ held.2 in
+    cc
+
 -- a token of which the function has a value, with one such token
-pub good_token : {A : Type 0} (f : Lexeme → Option A) (s : Lexeme) (a : A) → f s ≡ Some a → (F : List Lexeme → Type 0) → Good (λ E. token f) (λ X. one f) F
-good_token f s a hs F = record {
+pub good_token : {A : Type 0} (f : Lexeme → Option A) (s : Lexeme) (a : A) → f s ≡ Some a → f mark ≡ None → (F : List Lexeme → Type 0) → Good (λ E. token f) (λ X. one f) F
+good_token f s a hs never F = record {
   completes = λ E X e w o x held fits. ap (λ z. token f (z ++ o)) held.1 ∙ token_some f held.0 o x held.2;
   meets = λ i. subst (λ r. Meets (λ m. token f) (λ X. one f) i r) (sym (token_is f i)) (meets_token_by f s a hs i (of_next f i) refl);
   agrees = λ i. inl refl;
   some = (s ∷ [], a, (s, refl, hs));
   wider = λ X Y wide w x held. held;
+  plain = λ w x tokens held. held;
+  fills = λ u more x tokens held e t is. absurd (no_token f u more x never held);
+  reaches = λ all u more x tokens held o fits i e t is g q stops. absurd (no_token f u more x never held);
 }
 
 -- ---- one or the other
@@ -296,6 +410,25 @@ agrees_choose : {A : Type 0} (b : Bool) (p q r s : Outcome A) → Agrees p r →
 agrees_choose true p q r s g h = g
 agrees_choose false p q r s g h = h
 
+fills_either : {A : Type 0} (L M : Over A) → Fills L → Fills M → Fills (λ X. either (L X) (M X))
+fills_either L M g h u more x tokens (inl held) e t is = let w = g u more x tokens held e t is in (w.0, w.1, inl w.2)
+fills_either L M g h u more x tokens (inr held) e t is = let w = h u more x tokens held e t is in (w.0, w.1, inr w.2)
+
+reaches_choose : {A : Type 0} (test : Lexeme → Bool) (P Q : Parser SqlExpr → Parser A) (L M : Over A) (F G H : List Lexeme → Type 0) → Good P L F → Good Q M G →
+    ((X : Language SqlExpr) (w : List Lexeme) (x : A) → L X w x → begins test w ≡ true) →
+    ((X : Language SqlExpr) → Proper X → (w o : List Lexeme) (x : A) → M X w x → H o → begins test (w ++ o) ≡ false) →
+    ((o : List Lexeme) → H o → F o) → ((o : List Lexeme) → H o → G o) → Reaches (choose test (P limited) (Q limited)) (λ X. either (L X) (M X)) H
+reaches_choose test P Q L M F G H g h starts others to_first to_second all u more x tokens (inl held) o fits i e t is f q stops =
+    let w = g.fills u more x tokens held e t is in
+    let same : begins test (u ++ i) ≡ true =
+    begins_same test (u ++ i) (u ++ (e ++ w.0)) (front_append u i (e ++ w.0) (f ∙ sym (front_more e w.0 (nonempty is)))) ∙ starts IsExpr (u ++ (e ++ w.0)) w.1 w.2 in
+    ap (λ b. cond b (P limited (u ++ i)) (Q limited (u ++ i))) same ∙ g.reaches all u more x tokens held o (to_first o fits) i e t is f q stops
+reaches_choose test P Q L M F G H g h starts others to_first to_second all u more x tokens (inr held) o fits i e t is f q stops =
+    let w = h.fills u more x tokens held e t is in
+    let same : begins test (u ++ i) ≡ false =
+    begins_same test (u ++ i) ((u ++ (e ++ w.0)) ++ o) (ahead u i e w.0 o (nonempty is) f) ∙ others IsExpr exprs_proper (u ++ (e ++ w.0)) o w.1 w.2 fits in
+    ap (λ b. cond b (P limited (u ++ i)) (Q limited (u ++ i))) same ∙ h.reaches all u more x tokens held o (to_second o fits) i e t is f q stops
+
 -- where what the second begins with rests on what expressions begin with
 pub good_choose_by : {A : Type 0} (test : Lexeme → Bool) (P Q : Parser SqlExpr → Parser A) (L M : Over A) (F G H : List Lexeme → Type 0) → Good P L F → Good Q M G →
     ((X : Language SqlExpr) (w : List Lexeme) (x : A) → L X w x → begins test w ≡ true) →
@@ -310,6 +443,9 @@ good_choose_by test P Q L M F G H g h starts others to_first to_second = record 
   agrees = λ i. agrees_choose (begins test i) (P limited i) (Q limited i) (P unlimited i) (Q unlimited i) (g.agrees i) (h.agrees i);
   some = (g.some.0, g.some.1, inl g.some.2);
   wider = λ X Y wide w x held. ⊎_elim (λ first. inl (g.wider X Y wide w x first)) (λ second. inr (h.wider X Y wide w x second)) held;
+  plain = λ w x tokens held. ⊎_elim (λ first. inl (g.plain w x tokens first)) (λ second. inr (h.plain w x tokens second)) held;
+  fills = fills_either L M g.fills h.fills;
+  reaches = reaches_choose test P Q L M F G H g h starts others to_first to_second;
 }
 
 pub good_choose : {A : Type 0} (test : Lexeme → Bool) (P Q : Parser SqlExpr → Parser A) (L M : Over A) (F G H : List Lexeme → Type 0) → Good P L F → Good Q M G →

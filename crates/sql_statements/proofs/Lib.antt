@@ -1,3 +1,4 @@
+pub mod Marks
 pub mod Good
 pub mod Lists
 pub mod Window

@@ -1,5 +1,5 @@
 -- Lists with a token between two of their items.
-use Rattle.std.proofs.Common.{◌≡◌, ◌≢◌, ℕ, zero, suc, ◌+◌, ◌-◌, ◌≤◌, ◌<◌, le_refl, le_trans, Bool, true, false, cond, if◌then◌else◌, List, [], ◌∷◌, ◌++◌, length, Result, Ok, Err, refl, sym, ap, ◌∙◌, subst, append_assoc, append-nil, arith, length-append, inl, inr}
+use Rattle.std.proofs.Common.{◌≡◌, ◌≢◌, ℕ, zero, suc, ◌+◌, ◌-◌, ◌≤◌, ◌<◌, le_refl, le_trans, Bool, true, false, cond, if◌then◌else◌, List, [], ◌∷◌, ◌++◌, length, Result, Ok, Err, refl, sym, ap, ◌∙◌, subst, append_assoc, append-nil, arith, length-append, ◌⊎◌, inl, inr, ⊎_elim}
 use Rattle.sql_tree.specs.declared.expr.SqlExpr.{SqlExpr}
 use Rattle.sql_tree.specs.declared.lexeme.LexemeKind.{LexemeKind}
 use Rattle.sql_tree.specs.declared.lexeme.LexemeKind.TheVariants as k
@@ -13,8 +13,10 @@ use Rattle.sql_statements.specs.declared.error.ParseError.{ParseError}
 use Rattle.sql_statements.specs.declared.error.ParseError.TheVariants.{Memory, Unexpected, TooLong}
 use Rattle.sql_statements.specs.Languages.{Language, nothing, followed, separated as Separated, ◌>>=◌ as ◌⨾◌}
 use Rattle.sql_statements.specs.Parsers.{Outcome, Parser, and_then, ◌>>=◌, pure, rest_from, separated}
-use Rattle.sql_statements.specs.Limits.{IsShort, unlimited, limited}
-use Rattle.sql_statements.proofs.Good.{Over, Wider, Echoes, Taken, Halted, Why, Meets, why_inside, meets_bind, meets_alike, meets_weaker, Agrees, agrees_bind, Completes, Good, good_bind, good_as, some_in}
+use Rattle.sql_expr.specs.Grammar.{IsExpr}
+use Rattle.sql_statements.specs.Limits.{IsShort, IsMarked, mark, AreTokens, unlimited, limited}
+use Rattle.sql_statements.proofs.Marks.{tokens_before, tokens_behind, not_empty, place}
+use Rattle.sql_statements.proofs.Good.{Over, Wider, Echoes, Taken, Halted, Why, Meets, why_inside, meets_bind, meets_alike, meets_weaker, Agrees, agrees_bind, Completes, short_in, Plain, Filled, Fills, Reaches, reaches_bind, Good, good_bind, good_as, some_in}
 
 -- what goes on with these items
 abbrev pub Rest : {A : Type 0} → LexemeKind → Language A → List A → Language (List A)
@@ -135,6 +137,84 @@ meets_turns P L i (Err q) h = record { word = h.word; split = h.split; why = h.w
 abbrev pub After : LexemeKind → (List Lexeme → Type 0) → List Lexeme → Type 0
 After sep F o = F o × (kind o ≢ sep)
 
+-- ---- the first mark
+
+followed_plain : {A : Type 0} (sep : LexemeKind) (L : Over A) → Plain L → (w : List Lexeme) (xs : List A) → AreTokens w → followed sep (L IsMarked) w xs → followed sep (L IsShort) w xs
+followed_plain sep L plain w [] tokens h = h
+followed_plain sep L plain w (x ∷ xs) tokens h =
+    let all : AreTokens (h.0 ∷ (h.1 ++ h.2)) = subst AreTokens h.3 tokens in
+    (h.0, h.1, h.2, h.3, h.4, plain h.1 x (tokens_before h.1 h.2 all.1) h.5, followed_plain sep L plain h.2 xs (tokens_behind h.1 h.2 all.1) h.6)
+
+-- the first token of what goes on is before the mark
+pub first_token : (sep : LexemeKind) (u more v : List Lexeme) (c : Lexeme) → same_kind k.End sep ≡ false → c.kind ≡ sep → u ++ mark ∷ more ≡ c ∷ v →
+    (s : Lexeme) × (rest : List Lexeme) × (u ≡ s ∷ rest) × (s.kind ≡ sep) × (rest ++ mark ∷ more ≡ v)
+first_token sep [] more v c never is e =
+    let same : mark ≡ c = cc in
+    let test = alike k.End sep (ap (λ t. t.kind) same ∙ is) in
+    absurd (cc)
+first_token sep (s ∷ u) more v c never is e = let same : s ≡ c = cc in (s, u, refl, ap (λ t. t.kind) same ∙ is, cc)
+
+followed_fills : {A : Type 0} (sep : LexemeKind) (L : Over A) → same_kind k.End sep ≡ false → ((X Y : Language SqlExpr) → Wider X Y → (w : List Lexeme) (x : A) → L X w x → L Y w x) → Plain L → Fills L →
+    (xs : List A) (u more : List Lexeme) → AreTokens u → followed sep (L IsMarked) (u ++ mark ∷ more) xs → (e : List Lexeme) (t : SqlExpr) → IsExpr e t → Filled (λ X. followed sep (L X)) u e
+followed_fills sep L never wider plain fills [] u more tokens h e t is = absurd (not_empty u more h)
+followed_fills {A} sep L never wider plain fills (x ∷ xs) u more tokens h e t is =
+    ⊎_elim inside (behind (λ r later held. followed_fills sep L never wider plain fills xs r more later held e t is)) (place front_is.1 more h.1 h.2 mark front_is.4)
+  where
+    front_is : (s : Lexeme) × (rest : List Lexeme) × (u ≡ s ∷ rest) × (s.kind ≡ sep) × (rest ++ mark ∷ more ≡ h.1 ++ h.2)
+    front_is = first_token sep u more (h.1 ++ h.2) h.0 never h.4 h.3
+
+    all : AreTokens (front_is.0 ∷ front_is.1)
+    all = subst AreTokens front_is.2 tokens
+
+    inside : ((r : List Lexeme) × (h.1 ≡ front_is.1 ++ mark ∷ r) × (more ≡ r ++ h.2)) → Filled (λ X. followed sep (L X)) u e
+    inside (r, p_is, more_is) =
+        let f = fills front_is.1 r x all.1 (subst (λ z. L IsMarked z x) p_is h.5) e t is in
+        let split : u ++ (e ++ f.0) ≡ front_is.0 ∷ ((front_is.1 ++ (e ++ f.0)) ++ []) = ap (λ z. z ++ (e ++ f.0)) front_is.2 ∙ ap (λ z. front_is.0 ∷ z) (sym (append-nil (front_is.1 ++ (e ++ f.0)))) in
+        (f.0, f.1 ∷ [], (front_is.0, front_is.1 ++ (e ++ f.0), [], split, front_is.3, f.2, refl))
+
+    behind : ((r : List Lexeme) → AreTokens r → followed sep (L IsMarked) (r ++ mark ∷ more) xs → Filled (λ X. followed sep (L X)) r e) →
+        ((r : List Lexeme) × (front_is.1 ≡ h.1 ++ r) × (h.2 ≡ r ++ mark ∷ more)) → Filled (λ X. followed sep (L X)) u e
+    behind others (r, u_is, q_is) =
+        let parts : AreTokens (h.1 ++ r) = subst AreTokens u_is all.1 in
+        let f = others r (tokens_behind h.1 r parts) (subst (λ z. followed sep (L IsMarked) z xs) q_is h.6) in
+        let split : u ++ (e ++ f.0) ≡ front_is.0 ∷ (h.1 ++ (r ++ (e ++ f.0))) = ap (λ z. z ++ (e ++ f.0)) front_is.2 ∙ ap (λ z. front_is.0 ∷ (z ++ (e ++ f.0))) u_is ∙ ap (λ z. front_is.0 ∷ z) (append_assoc h.1 r (e ++ f.0)) in
+        (f.0, x ∷ f.1, (front_is.0, h.1, r ++ (e ++ f.0), split, front_is.3, wider IsShort IsExpr short_in h.1 x (plain h.1 x (tokens_before h.1 r parts) h.5), f.2))
+
+rest_fills : {A : Type 0} (sep : LexemeKind) (L : Over A) → same_kind k.End sep ≡ false → ((X Y : Language SqlExpr) → Wider X Y → (w : List Lexeme) (x : A) → L X w x → L Y w x) → Plain L → Fills L →
+    (found : List A) → Fills (λ X. Rest sep (L X) found)
+rest_fills sep L never wider plain fills found u more all tokens held e t is =
+    let f = followed_fills sep L never wider plain fills held.0 u more tokens held.1 e t is in
+    (f.0, found ++ f.1, (f.1, f.2, refl))
+
+-- a turn, from what was read
+unturned : {A : Type 0} (sep : LexemeKind) (L : Over A) (found : List A) (X : Language SqlExpr) (w : List Lexeme) (all : List A) → Rest sep (L X) found w all →
+    (w ≡ []) ⊎ ((c : Lexeme) × (v : List Lexeme) × (w ≡ c ∷ v) × (c.kind ≡ sep) × (L X ⨾ (λ x. Rest sep (L X) (found ++ x ∷ []))) v all)
+unturned sep L found X w all ([], h, same) = inl h
+unturned sep L found X w all (x ∷ xs, h, same) = inr (h.0, h.1 ++ h.2, h.3, h.4, (h.1, h.2, x, refl, h.5, (xs, h.6, append_assoc found (x ∷ []) xs ∙ same)))
+
+rest_reaches : {A : Type 0} (sep : LexemeKind) (P : Parser SqlExpr → Parser A) (L : Over A) (F : List Lexeme → Type 0) → Good P L F → same_kind k.End sep ≡ false → ((o : List Lexeme) → kind o ≡ sep → F o) →
+    Completes limited IsShort → (n : ℕ) (found : List A) (u more : List Lexeme) (all : List A) → AreTokens u → Rest sep (L IsMarked) found (u ++ mark ∷ more) all → (o : List Lexeme) → After sep F o →
+    (i e : List Lexeme) (t : SqlExpr) → IsExpr e t → front i ≡ front e → (q : ParseError × List Lexeme) → limited i ≡ Err q → length (u ++ i) ≤ n → rest_from sep (P limited) n found (u ++ i) ≡ Err q
+rest_reaches sep P L F g never joins whole zero found u more all tokens held o fits i e t is f q stops room =
+    ⊎_elim (λ none. absurd (not_empty u more none))
+    (λ h. let a = first_token sep u more h.1 h.0 never h.3 h.2 in absurd (omega (arith, ap (λ z. length (z ++ i)) a.2))) (unturned sep L found IsMarked (u ++ mark ∷ more) all held)
+rest_reaches {A} sep P L F g never joins whole (suc n) found u more all tokens held o fits i e t is f q stops room =
+    ⊎_elim (λ none. absurd (not_empty u more none))
+    (turn (λ x r later inside fewer. rest_reaches sep P L F g never joins whole n (found ++ x ∷ []) r more all later inside o fits i e t is f q stops fewer)) (unturned sep L found IsMarked (u ++ mark ∷ more) all held)
+  where
+    turn : ((x : A) (r : List Lexeme) → AreTokens r → Rest sep (L IsMarked) (found ++ x ∷ []) (r ++ mark ∷ more) all → length (r ++ i) ≤ n → rest_from sep (P limited) n (found ++ x ∷ []) (r ++ i) ≡ Err q) →
+        ((c : Lexeme) × (v : List Lexeme) × (u ++ mark ∷ more ≡ c ∷ v) × (c.kind ≡ sep) × (L IsMarked ⨾ (λ x. Rest sep (L IsMarked) (found ++ x ∷ []))) v all) → rest_from sep (P limited) (suc n) found (u ++ i) ≡ Err q
+    turn others (c, v, split, is_sep, inside) =
+        let a = first_token sep u more v c never is_sep split in
+        let later : AreTokens a.1 = (subst AreTokens a.2 tokens).1 in
+        ap (λ z. rest_from sep (P limited) (suc n) found (z ++ i)) a.2
+        ∙ rest_goes sep (P limited) n found (a.0 ∷ (a.1 ++ i)) (alike a.0.kind sep a.3)
+        ∙ reaches_bind P (λ x. rest_from sep (P limited) n (found ++ x ∷ [])) L (λ x X. Rest sep (L X) (found ++ x ∷ [])) F (After sep F) g
+        (λ x. rest_fills sep L never g.wider g.plain g.fills (found ++ x ∷ [])) (λ X x o fits v all held. follows_item sep (L X) F joins v o held.0 held.1 fits.0) whole
+        a.1 more all later (subst (λ z. (L IsMarked ⨾ (λ x. Rest sep (L IsMarked) (found ++ x ∷ []))) z all) (sym a.4) inside) o fits i e t is f q stops
+        (λ x p r apart inner. others x r (tokens_behind p r (subst AreTokens apart later)) inner
+        (omega (arith, room, ap (λ z. length (z ++ i)) a.2, ap (λ z. length (z ++ i)) apart, length-append (p ++ r) i, length-append p r, length-append r i)))
+
 pub good_rest : {A : Type 0} (sep : LexemeKind) (P : Parser SqlExpr → Parser A) (L : Over A) (F : List Lexeme → Type 0) → Good P L F → same_kind k.End sep ≡ false →
     ((o : List Lexeme) → kind o ≡ sep → F o) → (found : List A) → Good (λ E i. rest_from sep (P E) (length i) found i) (λ X. Rest sep (L X) found) (After sep F)
 good_rest sep P L F g never joins found = record {
@@ -143,6 +223,10 @@ good_rest sep P L F g never joins found = record {
   agrees = λ i. agrees_rest sep P L F g (length i) found i;
   some = ([], found, ([], refl, append-nil found));
   wider = λ X Y wide w all held. (held.0, followed_wider sep L g.wider X Y wide w held.0 held.1, held.2);
+  plain = λ w all tokens held. (held.0, followed_plain sep L g.plain w held.0 tokens held.1, held.2);
+  fills = rest_fills sep L never g.wider g.plain g.fills found;
+  reaches = λ whole u more all tokens held o fits i e t is f q stops.
+      rest_reaches sep P L F g never joins whole (length (u ++ i)) found u more all tokens held o fits i e t is f q stops (le_refl (length (u ++ i)));
 }
 
 separated_is : {A : Type 0} (sep : LexemeKind) (p : Parser A) (i : List Lexeme) → separated sep p i ≡ (p >>= (λ x i. rest_from sep p (length i) (x ∷ []) i)) i

@@ -28,26 +28,31 @@ use Rattle.sql_statements.specs.Parsers.{Parser, and_then, ◌>>=◌, pure, some
 use Rattle.sql_statements.specs.Grammar as grammar
 use Rattle.sql_statements.specs.Descent as descent
 use Rattle.sql_statements.specs.Descent.{in_parens, maybe, names, comment, option, options, files, files_or_table, source, streamed, origin_of, some_of, sequence_of, except, alias, reaction, violation, ignoring, columns_of, scd, track}
-use Rattle.sql_statements.specs.Limits.{IsShort}
+use Rattle.sql_statements.specs.Limits.{IsShort, mark}
+use Rattle.sql_statements.proofs.Marks.{is_end, the_mark}
 use Rattle.sql_statements.proofs.Good.{Over, Any, Good, good_bind, good_pure, good_as, good_token, good_choose}
 use Rattle.sql_statements.proofs.Lists.{Rest, After, good_rest, good_separated}
 use Rattle.sql_statements.proofs.Firsts.{if_so_true, the_self, word_self, the_kind, bare_kind, opens_kind, opens_word, starts_kind, starts_word, not_kind, no_word, word_kind, other_word, opens_other, opens_not, nothing_then, maybe_start}
 
 -- ---- helpers
 
-pub good_the : {B : Type 0} (wanted : LexemeKind) (Q : Parser SqlExpr → Parser B) (M : Over B) (G : List Lexeme → Type 0) → Good Q M G →
+pub good_the : {B : Type 0} (wanted : LexemeKind) → is_end wanted ≡ false → (Q : Parser SqlExpr → Parser B) (M : Over B) (G : List Lexeme → Type 0) → Good Q M G →
     Good (λ E. token (the wanted) >>= (λ _. Q E)) (λ X. one (the wanted) ⨾ (λ _. M X)) G
-good_the wanted Q M G g =
-    good_bind (λ E. token (the wanted)) (λ _. Q) (λ X. one (the wanted)) (λ _. M) Any G (good_token (the wanted) (plain wanted) tt (the_self wanted) Any) (λ _. g) (λ X x o fits v y held. tt)
+good_the wanted other Q M G g =
+    good_bind (λ E. token (the wanted)) (λ _. Q) (λ X. one (the wanted)) (λ _. M) Any G (good_token (the wanted) (plain wanted) tt (the_self wanted) (the_mark wanted other) Any) (λ _. g) (λ X x o fits v y held. tt)
+
+pub word_mark : (w : List ℕ) → the_word w mark ≡ None
+unfolding same_kind
+word_mark w = refl
 
 pub good_word : {B : Type 0} (w : List ℕ) (Q : Parser SqlExpr → Parser B) (M : Over B) (G : List Lexeme → Type 0) → str_eq_ignore_ascii_case w w ≡ true → Good Q M G →
     Good (λ E. token (the_word w) >>= (λ _. Q E)) (λ X. one (the_word w) ⨾ (λ _. M X)) G
 good_word w Q M G h g =
-    good_bind (λ E. token (the_word w)) (λ _. Q) (λ X. one (the_word w)) (λ _. M) Any G (good_token (the_word w) (word_token w) tt (word_self w h) Any) (λ _. g) (λ X x o fits v y held. tt)
+    good_bind (λ E. token (the_word w)) (λ _. Q) (λ X. one (the_word w)) (λ _. M) Any G (good_token (the_word w) (word_token w) tt (word_self w h) (word_mark w) Any) (λ _. g) (λ X x o fits v y held. tt)
 
-pub good_value : {A B : Type 0} (f : Lexeme → Option A) (s : Lexeme) (a : A) (Q : A → Parser SqlExpr → Parser B) (M : A → Over B) (G : List Lexeme → Type 0) → f s ≡ Some a → ((x : A) → Good (Q x) (M x) G) →
+pub good_value : {A B : Type 0} (f : Lexeme → Option A) (s : Lexeme) (a : A) (Q : A → Parser SqlExpr → Parser B) (M : A → Over B) (G : List Lexeme → Type 0) → f s ≡ Some a → f mark ≡ None → ((x : A) → Good (Q x) (M x) G) →
     Good (λ E. token f >>= (λ x. Q x E)) (λ X. one f ⨾ (λ x. M x X)) G
-good_value f s a Q M G h g = good_bind (λ E. token f) Q (λ X. one f) M Any G (good_token f s a h Any) g (λ X x o fits v y held. tt)
+good_value f s a Q M G h never g = good_bind (λ E. token f) Q (λ X. one f) M Any G (good_token f s a h never Any) g (λ X x o fits v y held. tt)
 
 -- what is read, behind a function
 pub good_map : {A B : Type 0} (f : A → B) (P : Parser SqlExpr → Parser A) (L : Over A) (F : List Lexeme → Type 0) → Good P L F → Good (λ E. P E >>= (λ x. pure (f x))) (λ X. L X ⨾ (λ x. nothing (f x))) F
@@ -69,9 +74,9 @@ pub good_in_parens : {A : Type 0} (P : Parser SqlExpr → Parser A) (L : Over A)
     Good (λ E. in_parens (P E)) (λ X. grammar.in_parens (L X)) G
 unfolding in_parens
 good_in_parens P L F g closes G =
-    good_the k.LParen (λ E. P E >>= (λ x. token (the k.RParen) >>= (λ _. pure x))) (λ X. L X ⨾ (λ x. one (the k.RParen) ⨾ (λ _. nothing x))) G
+    good_the k.LParen refl (λ E. P E >>= (λ x. token (the k.RParen) >>= (λ _. pure x))) (λ X. L X ⨾ (λ x. one (the k.RParen) ⨾ (λ _. nothing x))) G
     (good_bind P (λ x E. token (the k.RParen) >>= (λ _. pure x)) L (λ x X. one (the k.RParen) ⨾ (λ _. nothing x)) F G g
-    (λ x. good_the k.RParen (λ E. pure x) (λ X. nothing x) G (good_pure x G)) (λ X x o fits v y held. closes (v ++ o) (opens_kind k.RParen (nothing x) v o y held)))
+    (λ x. good_the k.RParen refl (λ E. pure x) (λ X. nothing x) G (good_pure x G)) (λ X x o fits v y held. closes (v ++ o) (opens_kind k.RParen (nothing x) v o y held)))
 
 -- ---- names
 
@@ -81,16 +86,16 @@ sample_name = word_token (codes "x")
 pub good_name_then : {B : Type 0} (Q : List ℕ → Parser SqlExpr → Parser B) (M : List ℕ → Over B) (G : List Lexeme → Type 0) → ((x : List ℕ) → Good (Q x) (M x) G) →
     Good (λ E. token name_of >>= (λ x. Q x E)) (λ X. one name_of ⨾ (λ x. M x X)) G
 unfolding same_kind
-good_name_then Q M G g = good_value name_of (word_token (codes "x")) (codes "x") Q M G refl g
+good_name_then Q M G g = good_value name_of (word_token (codes "x")) (codes "x") Q M G refl refl g
 
 good_name : (F : List Lexeme → Type 0) → Good (λ E. token name_of) (λ X. one name_of) F
 unfolding same_kind
-good_name F = good_token name_of (word_token (codes "x")) (codes "x") refl F
+good_name F = good_token name_of (word_token (codes "x")) (codes "x") refl refl F
 
 pub good_string_then : {B : Type 0} (Q : List ℕ → Parser SqlExpr → Parser B) (M : List ℕ → Over B) (G : List Lexeme → Type 0) → ((x : List ℕ) → Good (Q x) (M x) G) →
     Good (λ E. token string_of >>= (λ x. Q x E)) (λ X. one string_of ⨾ (λ x. M x X)) G
 unfolding same_kind
-good_string_then Q M G g = good_value string_of (string_token []) [] Q M G refl g
+good_string_then Q M G g = good_value string_of (string_token []) [] Q M G refl refl g
 
 -- no token of this kind follows
 abbrev pub Not : LexemeKind → List Lexeme → Type 0
@@ -128,7 +133,7 @@ good_reaction G =
 pub good_violation : Good (λ E. violation) (λ X. grammar.violation) (Not k.On)
 unfolding violation
 good_violation =
-    good_choose (is k.On) _ _ _ _ Any Any (Not k.On) (good_the k.On _ _ Any (good_word (codes "VIOLATION") _ _ Any refl (good_reaction Any))) (good_pure action.Warn Any)
+    good_choose (is k.On) _ _ _ _ Any Any (Not k.On) (good_the k.On refl _ _ Any (good_word (codes "VIOLATION") _ _ Any refl (good_reaction Any))) (good_pure action.Warn Any)
     (λ X. starts_kind k.On _) (λ X w o x held fits. ap (λ z. begins (is k.On) (z ++ o)) held.0 ∙ not_kind k.On o fits) (λ o h. tt) (λ o h. tt)
 
 -- ---- what a query reads
@@ -136,7 +141,7 @@ good_violation =
 good_option : (G : List Lexeme → Type 0) → Good (λ E. option) (λ X. grammar.option) G
 unfolding option same_kind is_any_word
 good_option G =
-    good_value option_word_of (word_token (codes "x")) (codes "x") _ _ G refl (λ w. good_the k.Arrow _ _ G (good_value value_of (string_token []) (value.Str []) _ _ G refl (λ v. good_pure (grammar.an_option w v) G)))
+    good_value option_word_of (word_token (codes "x")) (codes "x") _ _ G refl refl (λ w. good_the k.Arrow refl _ _ G (good_value value_of (string_token []) (value.Str []) _ _ G refl refl (λ v. good_pure (grammar.an_option w v) G)))
 
 good_options : Good (λ E. options) (λ X. followed k.Comma grammar.option) (Not k.Comma)
 unfolding options same_kind
@@ -245,8 +250,8 @@ unfolding same_kind
 good_source stream =
     good_as (λ E. Source_reader stream) (λ E. source stream) (λ X. Source_by_word stream) (λ X. grammar.source stream) (Not k.LParen) (Not k.LParen)
     (good_choose (is_bare (codes "read_files")) _ _ _ _ (Not k.LParen) Any (Not k.LParen)
-    (good_value read_files_of (word_token (codes "read_files")) (codes "read_files") _ _ (Not k.LParen) refl (λ n. good_files_or_table stream n))
-    (good_value other_name_of (word_token (codes "x")) (codes "x") _ _ Any refl (λ n. good_pure (origin.Table stream n) Any))
+    (good_value read_files_of (word_token (codes "read_files")) (codes "read_files") _ _ (Not k.LParen) refl refl (λ n. good_files_or_table stream n))
+    (good_value other_name_of (word_token (codes "x")) (codes "x") _ _ Any refl refl (λ n. good_pure (origin.Table stream n) Any))
     (λ X. starts_files _) (λ X w o x held fits. no_files (λ n. nothing (origin.Table stream n)) w o x held) (λ o h. h) (λ o h. tt))
     (λ E i. source_same stream i) (λ X. joined_source stream) (λ X. split_source stream) (λ o h. h)
 
@@ -298,7 +303,7 @@ good_streamed =
 pub good_origin : Good (λ E. origin_of) (λ X. grammar.origin_of) (Not k.LParen)
 unfolding origin_of
 good_origin =
-    good_choose (is k.Stream) _ _ _ _ (Not k.LParen) (Not k.LParen) (Not k.LParen) (good_the k.Stream _ _ (Not k.LParen) good_streamed) (good_source false)
+    good_choose (is k.Stream) _ _ _ _ (Not k.LParen) (Not k.LParen) (Not k.LParen) (good_the k.Stream refl _ _ (Not k.LParen) good_streamed) (good_source false)
     (λ X. starts_kind k.Stream _) (λ X w o x held fits. not_kind k.Stream (w ++ o) (source_kind false w o x k.Stream held (λ h. cc) (λ h. cc))) (λ o h. h) (λ o h. h)
 
 -- ---- columns
@@ -325,7 +330,7 @@ pub good_some : Good (λ E. some_of) (λ X. grammar.some_of) (Not k.Comma)
 unfolding some_of
 good_some =
     good_choose (is k.Star) _ _ _ _ Any (Not k.Comma) (Not k.Comma)
-    (good_the k.Star _ _ Any (good_the k.Except _ _ Any (good_map some.Except (λ E. in_parens names) (λ X. grammar.in_parens grammar.names) Any (good_names_in_parens Any)))) good_some_parens
+    (good_the k.Star refl _ _ Any (good_the k.Except refl _ _ Any (good_map some.Except (λ E. in_parens names) (λ X. grammar.in_parens grammar.names) Any (good_names_in_parens Any)))) good_some_parens
     (λ X. starts_kind k.Star _)
     (λ X w o x held fits. not_kind k.Star (w ++ o) (λ same. ⊎_elim
     (λ parens. let at = kind_of_begin k.LParen w o (parens_start grammar.names (λ columns. nothing (some.Only columns)) w x parens) in absurd (cc))
@@ -335,14 +340,14 @@ good_some =
 pub good_sequence : (G : List Lexeme → Type 0) → Good (λ E. sequence_of) (λ X. grammar.sequence_of) G
 unfolding sequence_of
 good_sequence G =
-    good_choose (is k.Struct) _ _ _ _ G G G (good_the k.Struct _ _ G (good_map sequence.Struct (λ E. in_parens names) (λ X. grammar.in_parens grammar.names) G (good_names_in_parens G)))
+    good_choose (is k.Struct) _ _ _ _ G G G (good_the k.Struct refl _ _ G (good_map sequence.Struct (λ E. in_parens names) (λ X. grammar.in_parens grammar.names) G (good_names_in_parens G)))
     (good_name_then _ _ G (λ column. good_pure (sequence.One column) G))
     (λ X. starts_kind k.Struct _) (λ X. name_not_kind k.Struct (λ h. cc) (λ h. cc) _ G) (λ o h. h) (λ o h. h)
 
 pub good_except : Good (λ E. except) (λ X. grammar.except) (Not k.Except)
 unfolding except
 good_except =
-    good_choose (is k.Except) _ _ _ _ Any Any (Not k.Except) (good_the k.Except _ _ Any (good_names_in_parens Any)) (good_pure [] Any)
+    good_choose (is k.Except) _ _ _ _ Any Any (Not k.Except) (good_the k.Except refl _ _ Any (good_names_in_parens Any)) (good_pure [] Any)
     (λ X. starts_kind k.Except _) (λ X w o x held fits. ap (λ z. begins (is k.Except) (z ++ o)) held.0 ∙ not_kind k.Except o fits) (λ o h. tt) (λ o h. tt)
 
 -- neither AS nor a name follows
@@ -360,7 +365,7 @@ good_bare_alias =
 pub good_alias : Good (λ E. alias) (λ X. grammar.alias) NoAlias
 unfolding alias
 good_alias =
-    good_choose (is k.As) _ _ _ _ Any NoAlias NoAlias (good_the k.As _ _ Any (good_name_then _ _ Any (λ n. good_pure (Some n) Any))) good_bare_alias
+    good_choose (is k.As) _ _ _ _ Any NoAlias NoAlias (good_the k.As refl _ _ Any (good_name_then _ _ Any (λ n. good_pure (Some n) Any))) good_bare_alias
     (λ X. starts_kind k.As _)
     (λ X w o x held fits. ⊎_elim (λ bare. not_kind k.As (w ++ o) (name_kind (λ n. nothing (Some n)) w o x k.As bare (λ h. cc) (λ h. cc))) (λ none. ap (λ z. begins (is k.As) (z ++ o)) none.0 ∙ fits.0) held)
     (λ o h. tt) (λ o h. h)
@@ -370,7 +375,7 @@ good_alias =
 pub good_ignoring : Good (λ E. ignoring) (λ X. grammar.ignoring) (NoWord (codes "IGNORE"))
 unfolding ignoring
 good_ignoring =
-    good_choose (is_bare (codes "IGNORE")) _ _ _ _ Any Any (NoWord (codes "IGNORE")) (good_word (codes "IGNORE") _ _ Any refl (good_the k.Null _ _ Any (good_word (codes "UPDATES") _ _ Any refl (good_pure true Any)))) (good_pure false Any)
+    good_choose (is_bare (codes "IGNORE")) _ _ _ _ Any Any (NoWord (codes "IGNORE")) (good_word (codes "IGNORE") _ _ Any refl (good_the k.Null refl _ _ Any (good_word (codes "UPDATES") _ _ Any refl (good_pure true Any)))) (good_pure false Any)
     (λ X. starts_word (codes "IGNORE") _) (λ X w o x held fits. ap (λ z. begins (is_bare (codes "IGNORE")) (z ++ o)) held.0 ∙ fits) (λ o h. tt) (λ o h. tt)
 
 abbrev pub NoColumns : List Lexeme → Type 0
@@ -386,7 +391,7 @@ pub good_scd : Good (λ E. scd) (λ X. grammar.scd) (NoWord (codes "STORED"))
 unfolding scd same_kind
 good_scd =
     good_maybe (is_bare (codes "STORED")) _ _ Any (NoWord (codes "STORED"))
-    (good_word (codes "STORED") _ _ Any refl (good_the k.As _ _ Any (good_word (codes "SCD") _ _ Any refl (good_word (codes "TYPE") _ _ Any refl (good_token scd_of (numeral 1) 1 refl Any)))))
+    (good_word (codes "STORED") _ _ Any refl (good_the k.As refl _ _ Any (good_word (codes "SCD") _ _ Any refl (good_word (codes "TYPE") _ _ Any refl (good_token scd_of (numeral 1) 1 refl refl Any)))))
     (λ X. starts_word (codes "STORED") _) (λ o h. h) (λ o h. tt)
 
 abbrev pub NoTrack : List Lexeme → Type 0
@@ -395,5 +400,5 @@ NoTrack o = NoWord (codes "TRACK") o × Not k.Comma o
 pub good_track : Good (λ E. track) (λ X. grammar.track) NoTrack
 unfolding track
 good_track =
-    good_maybe (is_bare (codes "TRACK")) _ _ (Not k.Comma) NoTrack (good_word (codes "TRACK") _ _ (Not k.Comma) refl (good_word (codes "HISTORY") _ _ (Not k.Comma) refl (good_the k.On _ _ (Not k.Comma) good_some)))
+    good_maybe (is_bare (codes "TRACK")) _ _ (Not k.Comma) NoTrack (good_word (codes "TRACK") _ _ (Not k.Comma) refl (good_word (codes "HISTORY") _ _ (Not k.Comma) refl (good_the k.On refl _ _ (Not k.Comma) good_some)))
     (λ X. starts_word (codes "TRACK") _) (λ o h. h.0) (λ o h. h.1)

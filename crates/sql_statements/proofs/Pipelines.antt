@@ -9,16 +9,18 @@ use Rattle.sql_tree.specs.Lexemes.{kind, same_kind}
 use Rattle.sql_phrases.specs.Parsers.{next, sees}
 use Rattle.sql_phrases.proofs.Phrases.{front, front_nil, front_cons, front_append, same_kinds}
 use Rattle.sql_phrases.proofs.Terminals.{kinds_alike, alike, alike_self}
-use Rattle.sql_expr.proofs.Reading.{unlike}
+use Rattle.sql_expr.specs.Grammar.{IsExpr}
+use Rattle.sql_expr.proofs.Reading.{unlike, nonempty}
 use Rattle.sql_statements.specs.declared.error.ParseError.{ParseError}
 use Rattle.sql_statements.specs.declared.error.ParseError.TheVariants.{Memory, Unexpected, TooLong}
 use Rattle.sql_statements.specs.Languages.{Language, ◌>>=◌ as ◌⨾◌}
 use Rattle.sql_statements.specs.Parsers.{Outcome, Parser, and_then, ◌>>=◌, pure}
 use Rattle.sql_statements.specs.Grammar as grammar
 use Rattle.sql_statements.specs.Descent.{statement_of, statements_from, first_statements, pipeline}
-use Rattle.sql_statements.specs.Limits.{IsShort, unlimited, limited}
-use Rattle.sql_statements.proofs.Good.{Over, Wider, Echoes, Taken, Halted, Why, Meets, why_inside, meets_bind, meets_alike, meets_weaker, Agrees, agrees_bind, Completes, Good, good_bind, good_as, some_in}
-use Rattle.sql_statements.proofs.Lists.{meets_turns}
+use Rattle.sql_statements.specs.Limits.{IsShort, IsMarked, mark, AreTokens, unlimited, limited}
+use Rattle.sql_statements.proofs.Marks.{tokens_before, tokens_behind, only_mark, not_empty, place}
+use Rattle.sql_statements.proofs.Good.{Over, Wider, Echoes, Taken, Halted, Why, Meets, why_inside, meets_bind, meets_alike, meets_weaker, Agrees, agrees_bind, Completes, short_in, ahead, Plain, Filled, Fills, Reaches, reaches_bind, Good, good_bind, good_as, some_in}
+use Rattle.sql_statements.proofs.Lists.{meets_turns, first_token}
 use Rattle.sql_statements.proofs.Statements.{StatementEnds, good_statement, statement_starts}
 
 -- what goes on with these statements
@@ -158,6 +160,99 @@ more_completes E X e (x ∷ xs) found v o (suc n) h f fits =
     ∙ more_completes E X e xs (found ++ x ∷ []) h.2 o n h.6 f (omega (arith, ap length whole, length-append h.1 (h.2 ++ o)))
     ∙ ap (λ z. Ok (z, o)) (append_assoc found (x ∷ []) xs)
 
+-- ---- the first mark
+
+more_plain : (w : List Lexeme) (xs : List Statement) → AreTokens w → grammar.more_statements IsMarked w xs → grammar.more_statements IsShort w xs
+more_plain w [] tokens h = h
+more_plain w (x ∷ xs) tokens h =
+    let all : AreTokens (h.0 ∷ (h.1 ++ h.2)) = subst AreTokens h.3 tokens in
+    (h.0, h.1, h.2, h.3, h.4, good_statement.plain h.1 x (tokens_before h.1 h.2 all.1) h.5, more_plain h.2 xs (tokens_behind h.1 h.2 all.1) h.6)
+
+-- the mark is no semicolon
+no_last : (u more : List Lexeme) (c : Lexeme) → u ++ mark ∷ more ≡ c ∷ [] → c.kind ≡ k.Semicolon → ⊥
+no_last u more c e is = let same = ap (λ t. t.kind) (only_mark u more c e).1 in absurd (cc)
+
+more_fills : (xs : List Statement) (u more : List Lexeme) → AreTokens u → grammar.more_statements IsMarked (u ++ mark ∷ more) xs → (e : List Lexeme) (t : SqlExpr) → IsExpr e t → Filled grammar.more_statements u e
+more_fills [] u more tokens (inl h) e t is = absurd (not_empty u more h)
+more_fills [] u more tokens (inr h) e t is = absurd (no_last u more h.0 h.1 h.2)
+more_fills (x ∷ xs) u more tokens h e t is =
+    ⊎_elim inside (behind (λ r later held. more_fills xs r more later held e t is)) (place front_is.1 more h.1 h.2 mark front_is.4)
+  where
+    front_is : (s : Lexeme) × (rest : List Lexeme) × (u ≡ s ∷ rest) × (s.kind ≡ k.Semicolon) × (rest ++ mark ∷ more ≡ h.1 ++ h.2)
+    front_is = first_token k.Semicolon u more (h.1 ++ h.2) h.0 never h.4 h.3
+
+    all : AreTokens (front_is.0 ∷ front_is.1)
+    all = subst AreTokens front_is.2 tokens
+
+    inside : ((r : List Lexeme) × (h.1 ≡ front_is.1 ++ mark ∷ r) × (more ≡ r ++ h.2)) → Filled grammar.more_statements u e
+    inside (r, p_is, more_is) =
+        let f = good_statement.fills front_is.1 r x all.1 (subst (λ z. grammar.statement_of IsMarked z x) p_is h.5) e t is in
+        let split : u ++ (e ++ f.0) ≡ front_is.0 ∷ ((front_is.1 ++ (e ++ f.0)) ++ []) = ap (λ z. z ++ (e ++ f.0)) front_is.2 ∙ ap (λ z. front_is.0 ∷ z) (sym (append-nil (front_is.1 ++ (e ++ f.0)))) in
+        (f.0, f.1 ∷ [], (front_is.0, front_is.1 ++ (e ++ f.0), [], split, front_is.3, f.2, inl refl))
+
+    behind : ((r : List Lexeme) → AreTokens r → grammar.more_statements IsMarked (r ++ mark ∷ more) xs → Filled grammar.more_statements r e) →
+        ((r : List Lexeme) × (front_is.1 ≡ h.1 ++ r) × (h.2 ≡ r ++ mark ∷ more)) → Filled grammar.more_statements u e
+    behind others (r, u_is, q_is) =
+        let parts : AreTokens (h.1 ++ r) = subst AreTokens u_is all.1 in
+        let f = others r (tokens_behind h.1 r parts) (subst (λ z. grammar.more_statements IsMarked z xs) q_is h.6) in
+        let split : u ++ (e ++ f.0) ≡ front_is.0 ∷ (h.1 ++ (r ++ (e ++ f.0))) = ap (λ z. z ++ (e ++ f.0)) front_is.2 ∙ ap (λ z. front_is.0 ∷ (z ++ (e ++ f.0))) u_is ∙ ap (λ z. front_is.0 ∷ z) (append_assoc h.1 r (e ++ f.0)) in
+        (f.0, x ∷ f.1, (front_is.0, h.1, r ++ (e ++ f.0), split, front_is.3, good_statement.wider IsShort IsExpr short_in h.1 x (good_statement.plain h.1 x (tokens_before h.1 r parts) h.5), f.2))
+
+found_fills : (found : List Statement) → Fills (More found)
+found_fills found u more all tokens held e t is =
+    let f = more_fills held.0 u more tokens held.1 e t is in
+    (f.0, found ++ f.1, (f.1, f.2, refl))
+
+-- a turn, from what was read
+unturned : (found : List Statement) (X : Language SqlExpr) (w : List Lexeme) (all : List Statement) → More found X w all →
+    (w ≡ []) ⊎ (((c : Lexeme) × (w ≡ c ∷ []) × (c.kind ≡ k.Semicolon)) ⊎
+    ((c : Lexeme) × (v : List Lexeme) × (w ≡ c ∷ v) × (c.kind ≡ k.Semicolon) × (grammar.statement_of X ⨾ (λ s. More (found ++ s ∷ []) X)) v all))
+unturned found X w all ([], inl h, same) = inl h
+unturned found X w all ([], inr h, same) = inr (inl h)
+unturned found X w all (x ∷ xs, h, same) = inr (inr (h.0, h.1 ++ h.2, h.3, h.4, (h.1, h.2, x, refl, h.5, (xs, h.6, append_assoc found (x ∷ []) xs ∙ same))))
+
+-- the tokens are not at the end where a statement begins
+begun_not_end : (M : Statement → Language SqlExpr → Language (List Statement)) (u more : List Lexeme) (all : List Statement) → AreTokens u → (grammar.statement_of IsMarked ⨾ (λ s. M s IsMarked)) (u ++ mark ∷ more) all →
+    (i e : List Lexeme) (t : SqlExpr) → IsExpr e t → front i ≡ front e → sees k.End (u ++ i) ≡ false
+begun_not_end M u more all tokens held i e t is f = ⊎_elim inside behind (place u more held.0 held.1 mark held.3)
+  where
+    inside : ((r : List Lexeme) × (held.0 ≡ u ++ mark ∷ r) × (more ≡ r ++ held.1)) → sees k.End (u ++ i) ≡ false
+    inside (r, p_is, more_is) =
+        let w = good_statement.fills u r held.2 tokens (subst (λ z. grammar.statement_of IsMarked z held.2) p_is held.4) e t is in
+        ap (λ a. same_kind a k.End) (same_kinds (u ++ i) ((u ++ (e ++ w.0)) ++ []) (ahead u i e w.0 [] (nonempty is) f)) ∙ unlike (kind ((u ++ (e ++ w.0)) ++ [])) k.End (statement_starts IsExpr (u ++ (e ++ w.0)) [] w.1 w.2)
+
+    behind : ((r : List Lexeme) × (u ≡ held.0 ++ r) × (held.1 ≡ r ++ mark ∷ more)) → sees k.End (u ++ i) ≡ false
+    behind (r, u_is, q_is) =
+        ap (sees k.End) (ap (λ z. z ++ i) u_is ∙ append_assoc held.0 r i) ∙ unlike (kind (held.0 ++ (r ++ i))) k.End (statement_starts IsMarked held.0 (r ++ i) held.2 held.4)
+
+more_reaches : Completes limited IsShort → (n : ℕ) (found : List Statement) (u more : List Lexeme) (all : List Statement) → AreTokens u → More found IsMarked (u ++ mark ∷ more) all → (o : List Lexeme) → AtEnd o →
+    (i e : List Lexeme) (t : SqlExpr) → IsExpr e t → front i ≡ front e → (q : ParseError × List Lexeme) → limited i ≡ Err q → length (u ++ i) ≤ n → statements_from limited n found (u ++ i) ≡ Err q
+more_reaches whole zero found u more all tokens held o fits i e t is f q stops room =
+    ⊎_elim (λ none. absurd (not_empty u more none))
+    (λ h. ⊎_elim (λ end. absurd (no_last u more end.0 end.1 end.2))
+    (λ h. let a = first_token k.Semicolon u more h.1 h.0 never h.3 h.2 in absurd (omega (arith, ap (λ z. length (z ++ i)) a.2))) h)
+    (unturned found IsMarked (u ++ mark ∷ more) all held)
+more_reaches whole (suc n) found u more all tokens held o fits i e t is f q stops room =
+    ⊎_elim (λ none. absurd (not_empty u more none))
+    (λ h. ⊎_elim (λ end. absurd (no_last u more end.0 end.1 end.2))
+    (turn (λ s r later inside fewer. more_reaches whole n (found ++ s ∷ []) r more all later inside o fits i e t is f q stops fewer)) h)
+    (unturned found IsMarked (u ++ mark ∷ more) all held)
+  where
+    turn : ((s : Statement) (r : List Lexeme) → AreTokens r → More (found ++ s ∷ []) IsMarked (r ++ mark ∷ more) all → length (r ++ i) ≤ n → statements_from limited n (found ++ s ∷ []) (r ++ i) ≡ Err q) →
+        ((c : Lexeme) × (v : List Lexeme) × (u ++ mark ∷ more ≡ c ∷ v) × (c.kind ≡ k.Semicolon) × (grammar.statement_of IsMarked ⨾ (λ s. More (found ++ s ∷ []) IsMarked)) v all) →
+        statements_from limited (suc n) found (u ++ i) ≡ Err q
+    turn others (c, v, split, is_last, begun) =
+        let a = first_token k.Semicolon u more v c never is_last split in
+        let later : AreTokens a.1 = (subst AreTokens a.2 tokens).1 in
+        let inside = subst (λ z. (grammar.statement_of IsMarked ⨾ (λ s. More (found ++ s ∷ []) IsMarked)) z all) (sym a.4) begun in
+        ap (λ z. statements_from limited (suc n) found (z ++ i)) a.2
+        ∙ goes limited n found (a.0 ∷ (a.1 ++ i)) (alike a.0.kind k.Semicolon a.3) (begun_not_end (λ s. More (found ++ s ∷ [])) a.1 more all later inside i e t is f)
+        ∙ reaches_bind statement_of (λ s. statements_from limited n (found ++ s ∷ [])) grammar.statement_of (λ s. More (found ++ s ∷ [])) StatementEnds AtEnd good_statement
+        (λ s. found_fills (found ++ s ∷ [])) (λ X s o fits v all held. more_ends X v o held.0 held.1 fits) whole
+        a.1 more all later inside o fits i e t is f q stops
+        (λ s p r apart inner. others s r (tokens_behind p r (subst AreTokens apart later)) inner
+        (omega (arith, room, ap (λ z. length (z ++ i)) a.2, ap (λ z. length (z ++ i)) apart, length-append (p ++ r) i, length-append p r, length-append r i)))
+
 good_more : (found : List Statement) → Good (λ E i. statements_from E (length i) found i) (More found) AtEnd
 good_more found = record {
   completes = λ E X e w o all held fits. more_completes E X e held.0 found w o (length (w ++ o)) held.1 fits (le_refl (length (w ++ o))) ∙ ap (λ z. Ok (z, o)) held.2;
@@ -165,6 +260,10 @@ good_more found = record {
   agrees = λ i. agrees_more (length i) found i;
   some = ([], found, last IsShort found);
   wider = λ X Y wide w all held. (held.0, more_wider X Y wide w held.0 held.1, held.2);
+  plain = λ w all tokens held. (held.0, more_plain w held.0 tokens held.1, held.2);
+  fills = found_fills found;
+  reaches = λ whole u more all tokens held o fits i e t is f q stops.
+      more_reaches whole (length (u ++ i)) found u more all tokens held o fits i e t is f q stops (le_refl (length (u ++ i)));
 }
 
 -- one statement or more
@@ -188,6 +287,21 @@ pipeline_is : (E : Parser SqlExpr) (i : List Lexeme) (b : Bool) → sees k.End i
 unfolding pipeline
 pipeline_is E i b h = ap (λ b. cond b (Ok ([], i)) (first_statements E i)) h
 
+plain_pipeline : Plain grammar.pipeline
+plain_pipeline w [] tokens h = h
+plain_pipeline w (s ∷ more) tokens h =
+    let parts : AreTokens (h.0 ++ h.1) = subst AreTokens h.2 tokens in
+    (h.0, h.1, h.2, good_statement.plain h.0 s (tokens_before h.0 h.1 parts) h.3, more_plain h.1 more (tokens_behind h.0 h.1 parts) h.4)
+
+fills_pipeline : Fills grammar.pipeline
+fills_pipeline u more all tokens held e t is = ⊎_elim (λ none. absurd (not_empty u more none.0))
+    (λ first. let w = good_first.fills u more all tokens first e t is in (w.0, w.1, pipeline_to IsExpr (u ++ (e ++ w.0)) w.1 w.2)) (pipeline_cases IsMarked (u ++ mark ∷ more) all held)
+
+reaches_pipeline : Reaches (pipeline limited) grammar.pipeline AtEnd
+reaches_pipeline whole u more all tokens held o fits i e t is f q stops = ⊎_elim (λ none. absurd (not_empty u more none.0))
+    (λ first. pipeline_is limited (u ++ i) false (begun_not_end (λ s. More (s ∷ [])) u more all tokens first i e t is f) ∙ good_first.reaches whole u more all tokens first o fits i e t is f q stops)
+    (pipeline_cases IsMarked (u ++ mark ∷ more) all held)
+
 pub good_pipeline : Good pipeline grammar.pipeline AtEnd
 good_pipeline = record {
   completes = completes;
@@ -195,6 +309,9 @@ good_pipeline = record {
   agrees = λ i. agrees_by i (sees k.End i) refl;
   some = ([], [], refl);
   wider = wider;
+  plain = plain_pipeline;
+  fills = fills_pipeline;
+  reaches = reaches_pipeline;
 }
   where
     completes : (E : Parser SqlExpr) (X : Language SqlExpr) → Completes E X → (w o : List Lexeme) (all : List Statement) → grammar.pipeline X w all → AtEnd o → pipeline E (w ++ o) ≡ Ok (all, o)

@@ -79,7 +79,7 @@ NoItem o = Not k.On o × NoWord (codes "COMMENT") o
 good_expectation : Good expectation grammar.expectation (Not k.On)
 unfolding expectation
 good_expectation =
-    good_the k.Constraint _ _ (Not k.On) (good_name_then _ _ (Not k.On) (λ n. good_word (codes "EXPECT") _ _ (Not k.On) refl
+    good_the k.Constraint refl _ _ (Not k.On) (good_name_then _ _ (Not k.On) (λ n. good_word (codes "EXPECT") _ _ (Not k.On) refl
     (good_bind (λ E. in_parens E) _ (λ X. grammar.in_parens X) _ Any (Not k.On) (good_in_parens (λ E. E) (λ X. X) Ends good_expr (λ o h. ends_at o k.RParen h refl) Any)
     (λ test. good_map (item.Expect n test) (λ E. violation) (λ X. grammar.violation) (Not k.On) good_violation) (λ X x o fits v y held. tt))))
 
@@ -89,7 +89,7 @@ Column = grammar.name ⨾ (λ n. one type_of ⨾ (λ type. grammar.comment ⨾ (
 good_column : Good column (λ X. Column) (NoWord (codes "COMMENT"))
 unfolding column same_kind
 good_column =
-    good_name_then _ _ (NoWord (codes "COMMENT")) (λ n. good_value type_of (word_token (codes "INT")) type.Int _ _ (NoWord (codes "COMMENT")) refl
+    good_name_then _ _ (NoWord (codes "COMMENT")) (λ n. good_value type_of (word_token (codes "INT")) type.Int _ _ (NoWord (codes "COMMENT")) refl refl
     (λ type. good_map (λ _. item.Column n type) (λ E. comment) (λ X. grammar.comment) (NoWord (codes "COMMENT")) good_comment))
 
 good_item : Good item_of grammar.item_of NoItem
@@ -146,7 +146,7 @@ good_out : Good out_of grammar.out_of NoOut
 unfolding out_of
 good_out =
     good_choose_by (is k.Star) _ _ _ _ (Not k.Except) (λ o. NoAlias o × Ends o) NoOut
-    (good_the k.Star _ _ (Not k.Except) (good_map out.Star (λ E. except) (λ X. grammar.except) (Not k.Except) good_except))
+    (good_the k.Star refl _ _ (Not k.Except) (good_map out.Star (λ E. except) (λ X. grammar.except) (Not k.Except) good_except))
     (good_bind (λ E. E) _ (λ X. X) _ Ends (λ o. NoAlias o × Ends o) good_expr
     (λ x. good_less _ _ NoAlias (λ o. NoAlias o × Ends o) (good_map (out.One x) (λ E. alias) (λ X. grammar.alias) NoAlias good_alias) (λ o h. h.0))
     (λ X x o fits v y held. subst (λ z. Ends (z ++ o)) (sym (held.3 ∙ ap (λ z. held.0 ++ z) held.5.0 ∙ append-nil held.0)) (alias_ends held.0 o held.2 held.4 fits.1)))
@@ -173,7 +173,7 @@ NoGroups o = Not k.Group o × After k.Comma Ends o
 good_groups : Good groups grammar.groups NoGroups
 unfolding groups
 good_groups =
-    good_choose (is k.Group) _ _ _ _ (After k.Comma Ends) Any NoGroups (good_the k.Group _ _ (After k.Comma Ends) (good_the k.By _ _ (After k.Comma Ends) good_exprs)) (good_pure [] Any)
+    good_choose (is k.Group) _ _ _ _ (After k.Comma Ends) Any NoGroups (good_the k.Group refl _ _ (After k.Comma Ends) (good_the k.By refl _ _ (After k.Comma Ends) good_exprs)) (good_pure [] Any)
     (λ X. starts_kind k.Group _) (λ X. nothing_then (is k.Group) [] NoGroups (λ o h. not_kind k.Group o h.0)) (λ o h. h.1) (λ o h. tt)
 
 abbrev pub NoFilter : List Lexeme → Type 0
@@ -181,7 +181,7 @@ NoFilter o = Not k.Where o × Ends o
 
 good_filter : Good filter_of (λ X. grammar.maybe (one (the k.Where) ⨾ (λ _. X))) NoFilter
 unfolding filter_of
-good_filter = good_maybe (is k.Where) _ _ Ends NoFilter (good_the k.Where _ _ Ends good_expr) (λ X. starts_kind k.Where _) (λ o h. not_kind k.Where o h.0) (λ o h. h.1)
+good_filter = good_maybe (is k.Where) _ _ Ends NoFilter (good_the k.Where refl _ _ Ends good_expr) (λ X. starts_kind k.Where _) (λ o h. not_kind k.Where o h.0) (λ o h. h.1)
 
 -- what may follow a query
 abbrev pub NoSelect : List Lexeme → Type 0
@@ -190,9 +190,9 @@ NoSelect o = Not k.LParen o × NoFilter o × NoGroups o
 pub good_select : Good select grammar.select NoSelect
 unfolding select
 good_select =
-    good_the k.Select _ _ NoSelect
+    good_the k.Select refl _ _ NoSelect
     (good_bind outs _ (λ X. language.separated k.Comma (grammar.out_of X)) _ (After k.Comma NoOut) NoSelect good_outs
-    (λ found. good_the k.From _ _ NoSelect
+    (λ found. good_the k.From refl _ _ NoSelect
     (good_bind (λ E. origin_of) _ (λ X. grammar.origin_of) _ (Not k.LParen) NoSelect good_origin
     (λ from. good_bind filter_of _ (λ X. grammar.maybe (one (the k.Where) ⨾ (λ _. X))) _ NoFilter NoSelect good_filter
     (λ filter. good_less _ _ NoGroups NoSelect (good_map (grammar.a_select found from filter) groups grammar.groups NoGroups good_groups) (λ o h. h.2))

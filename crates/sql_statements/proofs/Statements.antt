@@ -31,7 +31,7 @@ use Rattle.sql_statements.proofs.Good.{Over, Any, Proper, Good, good_bind, good_
 use Rattle.sql_statements.proofs.Lists.{After, good_separated}
 use Rattle.sql_statements.proofs.Window.{Ends, good_expr}
 use Rattle.sql_statements.proofs.Firsts.{if_so_true, the_kind, bare_kind, opens_kind, opens_word, starts_kind, starts_word, not_kind, no_word, word_kind, word_self, other_word, opens_other, opens_not, nothing_then, maybe_start, word_ends}
-use Rattle.sql_statements.proofs.Parts.{good_the, good_word, good_value, good_map, good_less, good_maybe, good_in_parens, good_name_then, good_names_in_parens, Not, NoWord, good_comment, good_violation, good_origin, good_sequence, good_except, NoAlias, good_alias, good_ignoring, NoColumns, good_columns, good_scd, NoTrack, good_track, name_not_kind, name_kind}
+use Rattle.sql_statements.proofs.Parts.{word_mark, good_the, good_word, good_value, good_map, good_less, good_maybe, good_in_parens, good_name_then, good_names_in_parens, Not, NoWord, good_comment, good_violation, good_origin, good_sequence, good_except, NoAlias, good_alias, good_ignoring, NoColumns, good_columns, good_scd, NoTrack, good_track, name_not_kind, name_kind}
 use Rattle.sql_statements.proofs.Queries.{either_then, front_of, maybe_then, mapped_then, by_kind, by_word, by_kind_at, by_word_at, ends_at, no_name, good_items, NoSelect, good_select}
 
 -- ---- languages one after the other
@@ -135,12 +135,12 @@ NoCondition o = NoWord (codes "APPLY") o × Ends o
 
 good_truncation : Good truncation (λ X. Truncation X) Ends
 unfolding truncation
-good_truncation = good_word (codes "TRUNCATE") _ _ Ends refl (good_the k.When _ _ Ends good_expr)
+good_truncation = good_word (codes "TRUNCATE") _ _ Ends refl (good_the k.When refl _ _ Ends good_expr)
 
 good_truncation_part : Good truncation_part (λ X. grammar.maybe (Applied X (Truncation X))) NoCondition
 unfolding truncation_part
 good_truncation_part =
-    good_maybe (is_bare (codes "APPLY")) _ _ Ends NoCondition (good_word (codes "APPLY") _ _ Ends refl (good_the k.As _ _ Ends good_truncation)) (λ X. starts_word (codes "APPLY") _) (λ o h. h.0) (λ o h. h.1)
+    good_maybe (is_bare (codes "APPLY")) _ _ Ends NoCondition (good_word (codes "APPLY") _ _ Ends refl (good_the k.As refl _ _ Ends good_truncation)) (λ X. starts_word (codes "APPLY") _) (λ o h. h.0) (λ o h. h.1)
 
 word_ends_it : (w : List ℕ) (o : List Lexeme) → begins (is_bare w) o ≡ true → Ends o
 word_ends_it w o h = ends_at o k.Word (word_kind w o h) refl
@@ -149,7 +149,7 @@ good_first : Good first_condition (λ X. First X) NoCondition
 unfolding first_condition
 good_first =
     good_choose (is_bare (codes "DELETE")) _ _ _ _ NoCondition Ends NoCondition
-    (good_word (codes "DELETE") _ _ NoCondition refl (good_the k.When _ _ NoCondition
+    (good_word (codes "DELETE") _ _ NoCondition refl (good_the k.When refl _ _ NoCondition
     (good_bind (λ E. E) _ (λ X. X) _ Ends NoCondition good_expr
     (λ x. good_map (λ y. (Some x, y)) truncation_part (λ X. grammar.maybe (Applied X (Truncation X))) NoCondition good_truncation_part)
     (λ X x o fits. mapped_then Ends _ None _ o (front_of Ends _ _ (by_word Ends (codes "APPLY") (word_ends_it (codes "APPLY")) _)) fits.1))))
@@ -162,7 +162,7 @@ pub good_conditions : Good conditions grammar.conditions NoCondition
 unfolding conditions
 good_conditions =
     good_as conditions conditions (λ X. Conditions X) grammar.conditions NoCondition NoCondition
-    (good_choose (is_bare (codes "APPLY")) _ _ _ _ NoCondition Any NoCondition (good_word (codes "APPLY") _ _ NoCondition refl (good_the k.As _ _ NoCondition good_first)) (good_pure (None, None) Any)
+    (good_choose (is_bare (codes "APPLY")) _ _ _ _ NoCondition Any NoCondition (good_word (codes "APPLY") _ _ NoCondition refl (good_the k.As refl _ _ NoCondition good_first)) (good_pure (None, None) Any)
     (λ X. starts_word (codes "APPLY") _) (λ X. nothing_then (is_bare (codes "APPLY")) (None, None) NoCondition (λ o h. h.0)) (λ o h. h) (λ o h. tt))
     (λ E i. refl) conditions_to conditions_from (λ o h. h)
 
@@ -185,13 +185,13 @@ word_no_comma v o h same = let at = word_kind v o h in absurd (cc)
 pub good_cdc : Good cdc grammar.cdc NoCdc
 unfolding cdc
 good_cdc =
-    good_word (codes "INTO") _ _ NoCdc refl (good_name_then _ _ NoCdc (λ target. good_the k.From _ _ NoCdc
+    good_word (codes "INTO") _ _ NoCdc refl (good_name_then _ _ NoCdc (λ target. good_the k.From refl _ _ NoCdc
     (good_bind (λ E. origin_of) _ (λ X. grammar.origin_of) _ (Not k.LParen) NoCdc good_origin
     (λ from. good_word (codes "KEYS") _ _ NoCdc refl
     (good_bind (λ E. in_parens names) _ (λ X. grammar.in_parens grammar.names) _ Any NoCdc (good_names_in_parens Any)
     (λ keys. good_bind (λ E. ignoring) _ (λ X. grammar.ignoring) _ (NoWord (codes "IGNORE")) NoCdc good_ignoring
     (λ ignore_null. good_bind conditions _ grammar.conditions _ NoCondition NoCdc good_conditions
-    (λ when. good_word (codes "SEQUENCE") _ _ NoCdc refl (good_the k.By _ _ NoCdc
+    (λ when. good_word (codes "SEQUENCE") _ _ NoCdc refl (good_the k.By refl _ _ NoCdc
     (good_bind (λ E. sequence_of) _ (λ X. grammar.sequence_of) _ Any NoCdc (good_sequence Any)
     (λ order. good_bind (λ E. columns_of) _ (λ X. grammar.columns_of) _ NoColumns NoCdc good_columns
     (λ columns. good_bind (λ E. scd) _ (λ X. grammar.scd) _ (NoWord (codes "STORED")) NoCdc good_scd
@@ -213,7 +213,7 @@ NoQuery o = Not k.As o × NoSelect o
 
 good_query_part : Good query_part (λ X. grammar.maybe (one (the k.As) ⨾ (λ _. grammar.select X))) NoQuery
 unfolding query_part
-good_query_part = good_maybe (is k.As) _ _ NoSelect NoQuery (good_the k.As _ _ NoSelect good_select) (λ X. starts_kind k.As _) (λ o h. not_kind k.As o h.0) (λ o h. h.1)
+good_query_part = good_maybe (is k.As) _ _ NoSelect NoQuery (good_the k.As refl _ _ NoSelect good_select) (λ X. starts_kind k.As _) (λ o h. not_kind k.As o h.0) (λ o h. h.1)
 
 abbrev pub NoTable : List Lexeme → Type 0
 NoTable o = NoWord (codes "COMMENT") o × NoQuery o
@@ -235,7 +235,7 @@ good_view =
     good_word (codes "MATERIALIZED") _ _ NoSelect refl (good_word (codes "VIEW") _ _ NoSelect refl (good_name_then _ _ NoSelect
     (λ n. good_bind items _ grammar.items _ (Not k.LParen) NoSelect good_items
     (λ declared. good_bind (λ E. comment) _ (λ X. grammar.comment) _ (NoWord (codes "COMMENT")) NoSelect good_comment
-    (λ _. good_the k.As _ _ NoSelect (good_map (statement.View n declared) select grammar.select NoSelect good_select))
+    (λ _. good_the k.As refl _ _ NoSelect (good_map (statement.View n declared) select grammar.select NoSelect good_select))
     (λ X _ o fits. by_kind_at (NoWord (codes "COMMENT")) k.As (λ o h. no_word (codes "COMMENT") o (λ same. cc)) _ o))
     (λ X declared o fits. either_then (Not k.LParen) _ tt _ o (by_word (Not k.LParen) (codes "COMMENT") (λ o h same. let at = word_kind (codes "COMMENT") o h in absurd (cc)) _)
     (λ _. by_kind_at (Not k.LParen) k.As (λ o h same. cc) _ o)))))
@@ -244,7 +244,7 @@ good_insert : (flow : List ℕ) → Good (λ E. insert E flow) (λ X. grammar.in
 unfolding insert
 good_insert flow =
     good_word (codes "INSERT") _ _ NoSelect refl (good_word (codes "INTO") _ _ NoSelect refl (good_name_then _ _ NoSelect
-    (λ target. good_the k.By _ _ NoSelect (good_word (codes "NAME") _ _ NoSelect refl (good_map (statement.Insert flow target) select grammar.select NoSelect good_select)))))
+    (λ target. good_the k.By refl _ _ NoSelect (good_word (codes "NAME") _ _ NoSelect refl (good_map (statement.Insert flow target) select grammar.select NoSelect good_select)))))
 
 abbrev Feed_words : Language (Unit {0})
 Feed_words = either (one (the_word (codes "AUTO")) ⨾ (λ _. one (the_word (codes "CDC")))) (one (the_word (codes "APPLY")) ⨾ (λ _. one (the_word (codes "CHANGES"))))
@@ -253,8 +253,8 @@ good_feed_words : Good feed_words (λ X. Feed_words) Any
 unfolding feed_words
 good_feed_words =
     good_choose (is_bare (codes "AUTO")) _ _ _ _ Any Any Any
-    (good_word (codes "AUTO") _ _ Any refl (good_token (the_word (codes "CDC")) (word_token (codes "CDC")) tt (word_self (codes "CDC") refl) Any))
-    (good_word (codes "APPLY") _ _ Any refl (good_token (the_word (codes "CHANGES")) (word_token (codes "CHANGES")) tt (word_self (codes "CHANGES") refl) Any))
+    (good_word (codes "AUTO") _ _ Any refl (good_token (the_word (codes "CDC")) (word_token (codes "CDC")) tt (word_self (codes "CDC") refl) (word_mark (codes "CDC")) Any))
+    (good_word (codes "APPLY") _ _ Any refl (good_token (the_word (codes "CHANGES")) (word_token (codes "CHANGES")) tt (word_self (codes "CHANGES") refl) (word_mark (codes "CHANGES")) Any))
     (λ X. starts_word (codes "AUTO") _) (λ X. opens_other (codes "APPLY") (codes "AUTO") refl _ Any) (λ o h. tt) (λ o h. tt)
 
 good_feed : (flow : List ℕ) → Good (λ E. feed E flow) (λ X. grammar.feed X flow) NoCdc
@@ -289,7 +289,7 @@ ends_table o h = (ends_word (codes "COMMENT") o h, (ends_not k.As o (λ h. cc) (
 good_flow : Good flow_of grammar.flow_of StatementEnds
 unfolding flow_of
 good_flow =
-    good_word (codes "FLOW") _ _ StatementEnds refl (good_name_then _ _ StatementEnds (λ n. good_the k.As _ _ StatementEnds
+    good_word (codes "FLOW") _ _ StatementEnds refl (good_name_then _ _ StatementEnds (λ n. good_the k.As refl _ _ StatementEnds
     (good_choose (is_bare (codes "INSERT")) (λ E. insert E n) (λ E. feed E n) (λ X. grammar.insert X n) (λ X. grammar.feed X n) NoSelect NoCdc StatementEnds (good_insert n) (good_feed n)
     (λ X. starts_word (codes "INSERT") _)
     (λ X w o x held fits. ap (λ z. begins (is_bare (codes "INSERT")) (z ++ o)) held.3 ∙ ap (begins (is_bare (codes "INSERT"))) (append_assoc held.0 held.1 o) ∙ feed_no_insert held.0 (held.1 ++ o) held.2 held.4)
@@ -339,7 +339,7 @@ good_created : Good created Created StatementEnds
 unfolding created
 good_created =
     good_choose (is k.Or) _ _ Replaced (λ X. either (grammar.flow_of X) (Dataset X)) StatementEnds StatementEnds StatementEnds
-    (good_the k.Or _ _ StatementEnds (good_word (codes "REFRESH") _ _ StatementEnds refl good_dataset))
+    (good_the k.Or refl _ _ StatementEnds (good_word (codes "REFRESH") _ _ StatementEnds refl good_dataset))
     (good_choose (is_bare (codes "FLOW")) flow_of dataset grammar.flow_of Dataset StatementEnds StatementEnds StatementEnds good_flow good_dataset
     (λ X. starts_word (codes "FLOW") _) dataset_no_flow (λ o h. h) (λ o h. h))
     (λ X. starts_kind k.Or _) unreplaced_no_or (λ o h. h) (λ o h. h)
@@ -413,7 +413,7 @@ pub good_statement : Good statement_of grammar.statement_of StatementEnds
 unfolding statement_of
 good_statement =
     good_as statement_of statement_of Statements grammar.statement_of StatementEnds StatementEnds
-    (good_choose (is k.Create) _ _ (λ X. one (the k.Create) ⨾ (λ _. Created X)) grammar.apply StatementEnds StatementEnds StatementEnds (good_the k.Create _ _ StatementEnds good_created) good_apply
+    (good_choose (is k.Create) _ _ (λ X. one (the k.Create) ⨾ (λ _. Created X)) grammar.apply StatementEnds StatementEnds StatementEnds (good_the k.Create refl _ _ StatementEnds good_created) good_apply
     (λ X. starts_kind k.Create _) (λ X w o x h fits. not_kind k.Create (w ++ o) (λ same. let at = word_kind (codes "APPLY") (w ++ o) (first_word (codes "APPLY") h.0 h.1 o w h.2 h.3 h.4) in absurd (cc))) (λ o h. h) (λ o h. h))
     (λ E i. refl) statement_to statement_from (λ o h. h)
 

@@ -22,8 +22,9 @@ use Rattle.sql_statements.specs.declared.error.ParseError.{ParseError}
 use Rattle.sql_statements.specs.declared.error.ParseError.TheVariants.{Memory, Unexpected, TooLong}
 use Rattle.sql_statements.specs.Languages.{Language}
 use Rattle.sql_statements.specs.Parsers.{Outcome, Parser}
-use Rattle.sql_statements.specs.Limits.{IsShort, IsMarked, mark, lifted, past_limit, unlimited, limited, IsOpen, IsFull}
-use Rattle.sql_statements.proofs.Good.{Meets, Agrees, Completes, Good}
+use Rattle.sql_statements.specs.Limits.{IsShort, IsMarked, mark, AreTokens, lifted, past_limit, unlimited, limited, IsOpen, IsFull}
+use Rattle.sql_statements.proofs.Marks.{no_mark, only_mark, expr_tokens}
+use Rattle.sql_statements.proofs.Good.{Meets, Agrees, Completes, Plain, Fills, Reaches, Good}
 
 -- the same answer, at each depth that is enough, whatever stands behind the next token
 abbrev Sure : List Lexeme → (List Lexeme → ExprOutcome SqlExpr) → List Lexeme → Type 0
@@ -207,6 +208,19 @@ some_short = (plain k.Number ∷ [], tree.Number (pos 0), (lower 1 8 (omega arit
 abbrev pub Ends : List Lexeme → Type 0
 Ends o = binds (kind o) < 1
 
+plain_expr : Plain (λ X. X)
+plain_expr w x tokens (inl held) = held
+plain_expr w x tokens (inr is) = absurd (no_mark [] [] (subst AreTokens is tokens))
+
+fills_expr : Fills (λ X. X)
+fills_expr u more x tokens (inl held) e t is = absurd (no_mark u more (expr_tokens held.0))
+fills_expr u more x tokens (inr alone) e t is =
+    ([], t, subst (λ z. IsExpr (z ++ (e ++ [])) t) (sym (only_mark u more mark alone).0) (subst (λ z. IsExpr z t) (sym (append-nil e)) is))
+
+reaches_expr : Reaches limited (λ X. X) Ends
+reaches_expr all u more x tokens (inl held) o fits i e t is f q stops = absurd (no_mark u more (expr_tokens held.0))
+reaches_expr all u more x tokens (inr alone) o fits i e t is f q stops = ap (λ z. limited (z ++ i)) (only_mark u more mark alone).0 ∙ stops
+
 pub good_expr : Good (λ E. E) (λ X. X) Ends
 good_expr = record {
   completes = λ E X e w o x held fits. e.0 w o x held fits;
@@ -214,4 +228,7 @@ good_expr = record {
   agrees = λ i. (both i).1;
   some = some_short;
   wider = λ X Y wide w x held. wide w x held;
+  plain = plain_expr;
+  fills = fills_expr;
+  reaches = reaches_expr;
 }

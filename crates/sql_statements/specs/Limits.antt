@@ -1,5 +1,5 @@
 -- The most tokens of an outermost expression.
-use Rattle.std.specs.Prelude.{◌≡◌, ℕ, suc, ◌≤◌, ◌+◌, ◌-◌, ◌⊎◌, nat_le, if◌then◌else◌, List, [], ◌∷◌, ◌++◌, length, take, drop, Result, Ok, Err}
+use Rattle.std.specs.Prelude.{◌≡◌, ◌≢◌, ℕ, suc, ◌≤◌, ◌+◌, ◌-◌, ◌⊎◌, nat_le, if◌then◌else◌, List, [], ◌∷◌, ◌++◌, length, take, drop, Result, Ok, Err}
 use Rattle.sql_tree.specs.declared.expr.SqlExpr.{SqlExpr}
 use Rattle.sql_tree.specs.declared.lexeme.LexemeKind.TheVariants as k
 use Rattle.sql_tree.specs.declared.lexeme.Lexeme.{Lexeme}
@@ -21,6 +21,11 @@ mark = record { kind = k.End; text = []; value = 0 }
 -- an expression within the limit, or the mark for one
 abbrev pub IsMarked : Language SqlExpr
 IsMarked w x = IsShort w x ⊎ (w ≡ mark ∷ [])
+
+-- no token of a text is the end of it
+abbrev pub AreTokens : List Lexeme → Type 0
+AreTokens [] = Unit {0}
+AreTokens (t ∷ ts) = (t.kind ≢ k.End) × AreTokens ts
 
 -- ---- the reader
 
