@@ -14,8 +14,8 @@ use Rattle.sql_statements.specs.Parsers.{Outcome}
 use Rattle.sql_statements.specs.Grammar.{pipeline}
 use Rattle.sql_statements.specs.Descent.{pipeline as pipeline_reader}
 use Rattle.sql_statements.specs.Limits.{IsShort, IsFull, Cut, Begun, limited, unlimited}
-use Rattle.sql_statements.specs.Pipelines.{IsPipeline, IsShortPipeline, BeginsPipeline, IsUnexpected, IsTooLong, ended, whole, IsAnswer}
-use Rattle.sql_statements.proofs.Good.{Meets, Taken, Halted, Echoes, Agrees, IsLong}
+use Rattle.sql_statements.specs.Pipelines.{IsPipeline, IsShortPipeline, BeginsPipeline, IsTooLong, ended, whole, IsAnswer}
+use Rattle.sql_statements.proofs.Good.{Meets, Taken, Halted, Echoes, Agrees, IsLong, short_in}
 use Rattle.sql_statements.proofs.Window.{limited_completes, unlimited_completes}
 use Rattle.sql_statements.proofs.Pipelines.{good_pipeline}
 
@@ -45,10 +45,22 @@ one_pipeline ts p q g h = ap (λ z. z.0) (same_pair (p, []) (q, []) (sym (reads_
 agreed : (ts : List Lexeme) (r : Outcome (List Statement)) → pipeline_reader limited ts ≡ r → (IsLong r → ⊥) → pipeline_reader unlimited ts ≡ r
 agreed ts r e never = ⊎_elim (λ same. sym same ∙ e) (λ long. absurd (never (long.0, sym e ∙ long.1))) (good_pipeline.agrees ts)
 
+-- what is read within the limit is read without it
+pub wide : (ts : List Lexeme) (p : List Statement) → IsShortPipeline ts p → IsPipeline ts p
+wide ts p h = good_pipeline.wider IsShort IsExpr short_in ts p h
+
 -- ---- where a reading stops
 
+-- The tokens before this place begin a pipeline whose outermost expressions are within the limit so far. With the one at
+-- this place no pipeline begins, or all tokens are a beginning and no whole.
+pub record IsStopped (ts : List Lexeme) (at : ℕ) : Type 0 where
+  pub within : at ≤ length ts
+  pub begins : Begun pipeline (take at ts)
+  pub stops : at < length ts → BeginsPipeline (take (suc at) ts) → ⊥
+  pub not_whole : (p : List Statement) → IsPipeline ts p → ⊥
+
 stops_at : (ts w r : List Lexeme) → ts ≡ w ++ r → (answer : List Lexeme → Outcome (List Statement)) → Begun pipeline w → Echoes Reader w answer r → ((c : List Lexeme) → IsLong (answer c) → ⊥) →
-    ((c : List Lexeme) (p : List Statement) → 0 < length c → answer c ≢ Ok (p, [])) → ((p : List Statement) → IsPipeline ts p → ⊥) → IsUnexpected ts (length ts - length r)
+    ((c : List Lexeme) (p : List Statement) → 0 < length c → answer c ≢ Ok (p, [])) → ((p : List Statement) → IsPipeline ts p → ⊥) → IsStopped ts (length ts - length r)
 stops_at ts w r split answer begins echoes short never none =
     let at : length ts - length r ≡ length w = omega (arith, ap length split, length-append w r) in
     let read : take (length ts - length r) ts ≡ w = ap (λ n. take n ts) at ∙ ap (take (length w)) split ∙ take-append_seam w r in
@@ -72,8 +84,8 @@ stops_at ts w r split answer begins echoes short never none =
 -- what an answer says of the tokens
 abbrev pub IsTrueOf : List Lexeme → Result (List Statement) Refusal → Type 0
 IsTrueOf ts (Ok p) = IsShortPipeline ts p
-IsTrueOf ts (Err Memory) = Unit {0}
-IsTrueOf ts (Err (Unexpected at)) = IsUnexpected ts at
+IsTrueOf ts (Err Memory) = ⊥
+IsTrueOf ts (Err (Unexpected at)) = IsStopped ts at
 IsTrueOf ts (Err (TooLong at)) = IsTooLong ts at
 
 long_at : (ts w r : List Lexeme) → ts ≡ w ++ r → Cut pipeline (IsFull r) w → IsTooLong ts (length ts - length r)
@@ -95,7 +107,7 @@ true_by ts (Ok (p, t ∷ o)) e h =
     stops_at ts h.word (t ∷ o) h.split (λ c. Ok (p, c)) (inl ([], p, subst (λ z. IsShortPipeline z p) (sym (append-nil h.word)) h.holds)) h.echoes (λ c long. let is = long.1 in absurd (cc))
     (λ c q some same. omega (arith, ap (λ p. length p.1) (same_pair (p, c) (q, []) same)))
     (λ q is. no_rest ts p q t o (agreed ts (Ok (p, t ∷ o)) e (λ long. let is = long.1 in absurd (cc))) is)
-true_by ts (Err (errors.Memory, r)) e h = tt
+true_by ts (Err (errors.Memory, r)) e h = h.why
 true_by ts (Err (errors.Unexpected, r)) e h =
     stops_at ts h.word r h.split (λ c. Err (errors.Unexpected, c)) h.why (h.echoes refl) (λ c long. not_long c long.0 long.1) (λ c q some same. cc)
     (λ q is. let all = reads_any ts q is in let here = agreed ts (Err (errors.Unexpected, r)) e (λ long. not_long r long.0 long.1) in absurd (cc))
@@ -120,9 +132,3 @@ answer_only ts (Ok q) h p is = inl (sym h ∙ whole_takes ts p is)
 answer_only ts (Err Memory) h p is = inr refl
 answer_only ts (Err (Unexpected at)) h p is = let none = h (λ e. cc) in let some = whole_takes ts p is in absurd (cc)
 answer_only ts (Err (TooLong at)) h p is = let none = h (λ e. cc) in let some = whole_takes ts p is in absurd (cc)
-
-pub answer_unexpected : (ts : List Lexeme) (r : Result (List Statement) Refusal) → IsAnswer (whole ts) r → (at : ℕ) → r ≡ Err (Unexpected at) → IsUnexpected ts at
-answer_unexpected ts r h at e = subst (IsTrueOf ts) ((subst (IsAnswer (whole ts)) e h) (λ same. cc)) (whole_true ts)
-
-pub answer_too_long : (ts : List Lexeme) (r : Result (List Statement) Refusal) → IsAnswer (whole ts) r → (at : ℕ) → r ≡ Err (TooLong at) → IsTooLong ts at
-answer_too_long ts r h at e = subst (IsTrueOf ts) ((subst (IsAnswer (whole ts)) e h) (λ same. cc)) (whole_true ts)

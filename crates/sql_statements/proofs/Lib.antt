@@ -8,4 +8,5 @@ pub mod Queries
 pub mod Statements
 pub mod Pipelines
 pub mod Answers
+pub mod Refusals
 pub mod Prints

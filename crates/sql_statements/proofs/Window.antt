@@ -23,7 +23,7 @@ use Rattle.sql_statements.specs.declared.error.ParseError.TheVariants.{Memory, U
 use Rattle.sql_statements.specs.Languages.{Language}
 use Rattle.sql_statements.specs.Parsers.{Outcome, Parser}
 use Rattle.sql_statements.specs.Limits.{IsShort, IsMarked, mark, AreTokens, lifted, past_limit, unlimited, limited, IsOpen, IsFull}
-use Rattle.sql_statements.proofs.Marks.{no_mark, only_mark, expr_tokens}
+use Rattle.sql_statements.proofs.Marks.{no_mark, only_mark, front_more, expr_tokens}
 use Rattle.sql_statements.proofs.Good.{Meets, Agrees, Completes, Plain, Fills, Reaches, Good}
 
 -- the same answer, at each depth that is enough, whatever stands behind the next token
@@ -152,10 +152,6 @@ placed i w o high split some =
     let rest : drop (suc max_tokens - length o) i ≡ o ++ drop (suc max_tokens) i =
     ap (drop (suc max_tokens - length o)) whole ∙ behind w (o ++ drop (suc max_tokens) i) (suc max_tokens - length o) (omega (arith, both)) in
     (omega (arith, both), whole ∙ ap (λ z. w ++ z) (sym rest), ap front rest ∙ front_more o (drop (suc max_tokens) i) some)
-  where
-    front_more : (o c : List Lexeme) → 0 < length o → front (o ++ c) ≡ front o
-    front_more [] c h = absurd (omega arith)
-    front_more (t ∷ o) c h = refl
 
 none_left : (o : List Lexeme) → length o < 1 → o ≡ []
 none_left [] h = refl
@@ -232,3 +228,62 @@ good_expr = record {
   fills = fills_expr;
   reaches = reaches_expr;
 }
+
+-- ---- an expression that is too long
+
+-- the tokens that a reading left
+abbrev left : ExprOutcome SqlExpr → List Lexeme
+left (Ok p) = p.1
+left (Err r) = r
+
+same_pair : (p q : SqlExpr × List Lexeme) → ◌≡◌ {A = ExprOutcome SqlExpr} (Ok p) (Ok q) → p ≡ q
+same_pair p q h = cc
+
+-- what is read of a beginning of an expression leaves nothing of it
+nothing_left : (w m : List Lexeme) (y : SqlExpr) (r : ExprOutcome SqlExpr) → IsExpr (w ++ m) y → phrases.Meets 0 (λ e m. expr e 1) (Reads 1) w r → left r ≡ []
+nothing_left w m y (Ok p) is h = by_rest p.1 refl
+  where
+    by_rest : (o : List Lexeme) → p.1 ≡ o → p.1 ≡ []
+    by_rest [] e = e
+    by_rest (t ∷ o) e =
+        let split : w ++ m ≡ h.word ++ (p.1 ++ m) = ap (λ z. z ++ m) h.split ∙ append_assoc h.word p.1 m in
+        let n = length (w ++ m) in
+        let some : front (p.1 ++ m) ≡ front p.1 = front_more p.1 m (omega (arith, ap length e)) in
+        let short = h.echoes n n (p.1 ++ m) some (omega (arith, ap length split)) (omega (arith, ap length split)) in
+        let all : expr n 1 (w ++ m) ≡ Ok (y, []) = ap (expr n 1) (sym (append-nil (w ++ m))) ∙ read_whole (w ++ m) [] y is (omega arith) n [] refl (omega (arith, ap length (append-nil (w ++ m)))) in
+        let ends = ap (λ z. length z.1) (same_pair (p.0, p.1 ++ m) (y, []) (sym short ∙ ap (expr n 1) (sym split) ∙ all)) in
+        absurd (omega (arith, ends, ap length e, length-append p.1 m))
+nothing_left w m y (Err r) is h = by_rest r refl
+  where
+    by_rest : (o : List Lexeme) → r ≡ o → r ≡ []
+    by_rest [] e = e
+    by_rest (t ∷ o) e =
+        let split : w ++ m ≡ h.word ++ (r ++ m) = ap (λ z. z ++ m) h.split ∙ append_assoc h.word r m in
+        let n = length (w ++ m) in
+        let some : front (r ++ m) ≡ front r = front_more r m (omega (arith, ap length e)) in
+        let short = h.echoes n n (r ++ m) some (omega (arith, ap length split)) (omega (arith, ap length split)) in
+        let all : expr n 1 (w ++ m) ≡ Ok (y, []) = ap (expr n 1) (sym (append-nil (w ++ m))) ∙ read_whole (w ++ m) [] y is (omega arith) n [] refl (omega (arith, ap length (append-nil (w ++ m)))) in
+        let wrong = sym short ∙ ap (expr n 1) (sym split) ∙ all in
+        absurd (cc)
+
+past_end : (i : List Lexeme) (r : ExprOutcome SqlExpr) → left r ≡ [] → past_limit i r ≡ Err (TooLong, drop max_tokens i)
+past_end i (Ok p) e = ap (λ z. cond (nat_le 1 (length z)) (Ok (p.0, drop (suc max_tokens - length z) i)) (Err (TooLong, drop max_tokens i))) e
+past_end i (Err r) e = ap (λ z. cond (nat_le 1 (length z)) (Err (Unexpected, drop (suc max_tokens - length z) i)) (Err (TooLong, drop max_tokens i))) e
+
+-- the most tokens, and one with which an expression goes on
+pub limited_long : (v rest : List Lexeme) (t : Lexeme) → length v ≡ max_tokens → BeginsExpr (v ++ t ∷ []) → limited (v ++ t ∷ rest) ≡ Err (TooLong, t ∷ rest)
+unfolding limited
+limited_long v rest t size begun = by_test (nat_le (length (v ++ t ∷ rest)) max_tokens) refl
+  where
+    by_test : (b : Bool) → nat_le (length (v ++ t ∷ rest)) max_tokens ≡ b →
+        cond b (lifted (expr (length (v ++ t ∷ rest)) 1 (v ++ t ∷ rest))) (past_limit (v ++ t ∷ rest) (expr (suc max_tokens) 1 (take (suc max_tokens) (v ++ t ∷ rest)))) ≡ Err (TooLong, t ∷ rest)
+    by_test true e = absurd (omega (arith, leb-true (length (v ++ t ∷ rest)) max_tokens e, length-append v (t ∷ rest), size))
+    by_test false e =
+        let count : suc max_tokens ≡ length v + 1 = omega (arith, size) in
+        let front_is : take (suc max_tokens) (v ++ t ∷ rest) ≡ v ++ t ∷ [] = ap (λ n. take n (v ++ t ∷ rest)) count ∙ take-append-add v (t ∷ rest) 1 in
+        let read = expr (suc max_tokens) 1 (v ++ t ∷ []) in
+        let none = nothing_left (v ++ t ∷ []) begun.0 begun.1 read begun.2
+        (meets_expr (suc max_tokens) 1 (v ++ t ∷ []) (omega arith, omega arith, λ h. omega arith) (omega (arith, length-append v (t ∷ []), size))) in
+        ap (λ z. past_limit (v ++ t ∷ rest) (expr (suc max_tokens) 1 z)) front_is
+        ∙ past_end (v ++ t ∷ rest) read none
+        ∙ ap (λ z. Err (TooLong, z)) (behind v (t ∷ rest) max_tokens (sym size))

@@ -9,7 +9,7 @@ use Rattle.sql_statements.specs.declared.error.ParseError.TheVariants as errors
 use Rattle.sql_statements.specs.Grammar.{pipeline}
 use Rattle.sql_statements.specs.Parsers.{Outcome}
 use Rattle.sql_statements.specs.Descent.{pipeline as pipeline_reader}
-use Rattle.sql_statements.specs.Limits.{IsShort, IsFull, Cut, Begun, limited}
+use Rattle.sql_statements.specs.Limits.{IsShort, IsFull, Cut, limited}
 
 -- the tokens of a pipeline, whose expressions may have any number of them
 abbrev pub IsPipeline : List Lexeme → List Statement → Type 0
@@ -23,19 +23,26 @@ IsShortPipeline = pipeline IsShort
 abbrev pub BeginsPipeline : List Lexeme → Type 0
 BeginsPipeline w = (more : List Lexeme) × (p : List Statement) × IsPipeline (w ++ more) p
 
--- The tokens before this place begin a pipeline whose outermost expressions are within the limit so far. With the one at
--- this place no pipeline begins, or all tokens are a beginning and no whole.
-pub record IsUnexpected (ts : List Lexeme) (at : ℕ) : Type 0 where
-  pub within : at ≤ length ts
-  pub begins : Begun pipeline (take at ts)
-  pub stops : at < length ts → BeginsPipeline (take (suc at) ts) → ⊥
-  pub not_whole : (p : List Statement) → IsPipeline ts p → ⊥
-
 -- The token at this place goes on an outermost expression as the first past the most tokens, and those before it are
 -- within the limit.
 pub record IsTooLong (ts : List Lexeme) (at : ℕ) : Type 0 where
   pub within : at < length ts
   pub cut : Cut pipeline (IsFull (drop at ts)) (take at ts)
+
+-- The tokens before this place begin a pipeline, and none of them goes on an outermost expression past the limit. With
+-- the token at this place no pipeline begins, or all tokens are a beginning and no whole.
+pub record IsUnexpected (ts : List Lexeme) (at : ℕ) : Type 0 where
+  pub within : at ≤ length ts
+  pub begins : BeginsPipeline (take at ts)
+  pub none_too_long : (earlier : ℕ) → earlier < at → IsTooLong ts earlier → ⊥
+  pub stops : at < length ts → BeginsPipeline (take (suc at) ts) → ⊥
+  pub not_whole : (p : List Statement) → IsPipeline ts p → ⊥
+
+-- why tokens are refused
+abbrev pub IsRefused : List Lexeme → Refusal → Type 0
+IsRefused ts refusals.Memory = ⊥
+IsRefused ts (refusals.Unexpected at) = IsUnexpected ts at
+IsRefused ts (refusals.TooLong at) = IsTooLong ts at
 
 -- ---- the reader
 

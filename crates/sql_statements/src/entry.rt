@@ -1,12 +1,13 @@
 //! Whole pipelines.
 
-ghost use Rattle.std.specs.Prelude.{◌≡◌, ◌⊎◌, ℕ, List, length, IfOk};
+ghost use Rattle.std.specs.Prelude.{◌≡◌, ◌⊎◌, List, length, IfOk, IfErr};
 ghost use Rattle.sql_tree.specs.declared.statement.Statement.{Statement};
 ghost use Rattle.sql_statements.specs.Parsers.{Gives};
-ghost use Rattle.sql_statements.specs.Limits.{limited};
+ghost use Rattle.sql_statements.specs.Limits.{AreTokens, limited};
 ghost use Rattle.sql_statements.specs.Descent as spec;
 ghost use Rattle.sql_statements.specs.Pipelines as pipelines;
-ghost use Rattle.sql_statements.specs.Pipelines.{IsShortPipeline, IsUnexpected, IsTooLong};
+ghost use Rattle.sql_statements.specs.Pipelines.{IsShortPipeline, IsRefused};
+ghost use Rattle.sql_statements.specs.declared.error.Refusal.{Refusal as Refusals};
 
 use crate::error::{ParseError, Refusal};
 use crate::statement::statement;
@@ -71,14 +72,17 @@ fn whole(alloc: Global, tokens: &[Lexeme]) -> Result<Statements, Refusal>
     }
 }
 
-/// Reads all of the tokens as a pipeline.
+/// Reads all of the tokens as a pipeline. The first token that is refused is the one that goes on an outermost expression
+/// past `MAX_TOKENS`, or the one with which no pipeline begins, whichever comes first.
 pub fn read_tokens(alloc: Global, tokens: &[Lexeme]) -> Result<Statements, Refusal>
     // What is read is the pipeline of the grammar, with no outermost expression past the limit.
     ensures ok { IfOk result (λ p. IsShortPipeline tokens.now p) }
     // Such tokens have one list of statements, and are read unless memory runs out.
     ensures only { (p : List Statement) → IsShortPipeline tokens.now p → (result ≡ Ok p) ⊎ (result ≡ Err Refusal.Memory) }
-    ensures unexpected { (at : ℕ) → result ≡ Err (Refusal.Unexpected at) → IsUnexpected tokens.now at }
-    ensures too_long { (at : ℕ) → result ≡ Err (Refusal.TooLong at) → IsTooLong tokens.now at }
+    ensures refused { AreTokens tokens.now → IfErr result (λ refusal. (refusal ≡ Refusal.Memory) ⊎ IsRefused tokens.now refusal) }
+    // Tokens that are to be refused are refused so, unless memory runs out.
+    ensures only_refused { (refusal : Refusals) → AreTokens tokens.now → IsRefused tokens.now refusal
+        → (result ≡ Err refusal) ⊎ (result ≡ Err Refusal.Memory) }
 {
     whole(alloc, tokens)
 }

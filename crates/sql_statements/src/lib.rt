@@ -12,7 +12,7 @@ mod token;
 
 pub use entry::read_tokens;
 pub use error::{ParseError, Refusal};
-pub use laws::print_is_read;
+pub use laws::{answers_are_one, print_is_read};
 
 #[cfg(test)]
 mod tests;

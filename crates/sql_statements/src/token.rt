@@ -41,6 +41,7 @@ pub fn expect_word(reader: &mut Reader<'_>, word: &str) -> Result<(), ParseError
     taken(reader, found)
 }
 
+/// A word that is not reserved, or what stands in backquotes.
 #[tactic(auto, unfolding(crate::specs::Parsers::token))]
 pub fn name(alloc: Global, reader: &mut Reader<'_>) -> Result<Name, ParseError>
     ensures { Gives (parsers.token tokens.name_of reader.old) result reader.new }
@@ -49,6 +50,7 @@ pub fn name(alloc: Global, reader: &mut Reader<'_>) -> Result<Name, ParseError>
     taken(reader, found)
 }
 
+/// The characters that a string means.
 #[tactic(auto, unfolding(crate::specs::Parsers::token))]
 pub fn string(alloc: Global, reader: &mut Reader<'_>) -> Result<Text, ParseError>
     ensures { Gives (parsers.token tokens.string_of reader.old) result reader.new }
@@ -57,6 +59,7 @@ pub fn string(alloc: Global, reader: &mut Reader<'_>) -> Result<Text, ParseError
     taken(reader, found)
 }
 
+/// The word of an option of `read_files`, reserved or not, as it is spelled.
 #[tactic(auto, unfolding(crate::specs::Parsers::token))]
 pub fn option_word(alloc: Global, reader: &mut Reader<'_>) -> Result<Name, ParseError>
     ensures { Gives (parsers.token tokens.option_word_of reader.old) result reader.new }
@@ -65,6 +68,7 @@ pub fn option_word(alloc: Global, reader: &mut Reader<'_>) -> Result<Name, Parse
     taken(reader, found)
 }
 
+/// What an option of `read_files` is set to: a string, TRUE or FALSE.
 #[tactic(auto, unfolding(crate::specs::Parsers::token))]
 pub fn option_value(alloc: Global, reader: &mut Reader<'_>) -> Result<OptionValue, ParseError>
     ensures { Gives (parsers.token tokens.value_of reader.old) result reader.new }
@@ -73,6 +77,7 @@ pub fn option_value(alloc: Global, reader: &mut Reader<'_>) -> Result<OptionValu
     taken(reader, found)
 }
 
+/// 1 or 2, the type of a slowly changing dimension.
 #[tactic(auto, unfolding(crate::specs::Parsers::token))]
 pub fn scd_type(reader: &mut Reader<'_>) -> Result<u8, ParseError>
     ensures { Gives (parsers.token tokens.scd_of reader.old) result reader.new }
@@ -81,6 +86,7 @@ pub fn scd_type(reader: &mut Reader<'_>) -> Result<u8, ParseError>
     taken(reader, found)
 }
 
+/// The type of a declared column: INTEGER is INT, and LONG is BIGINT.
 #[tactic(auto, unfolding(crate::specs::Parsers::token))]
 pub fn column_type(reader: &mut Reader<'_>) -> Result<SqlType, ParseError>
     ensures { Gives (parsers.token lexemes.type_of reader.old) result reader.new }
