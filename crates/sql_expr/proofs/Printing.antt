@@ -26,85 +26,85 @@ use Rattle.sql_expr.proofs.Laws.{one_tree}
 
 -- ---- the print of each tree
 
-print-Number : (n : ℤ) → expr_print (tree.Number n) ≡ literal n
+pub print-Number : (n : ℤ) → expr_print (tree.Number n) ≡ literal n
 unfolding expr_print
 print-Number n = ap expr_print (sym (rolls-Number n)) ∙ fold-roll-SqlExpr (List Lexeme) (List Lexeme) print_layer print_arm (layer.Number n)
 
-print-Str : (s : List ℕ) → expr_print (tree.Str s) ≡ string_token s ∷ []
+pub print-Str : (s : List ℕ) → expr_print (tree.Str s) ≡ string_token s ∷ []
 unfolding expr_print
 print-Str s = ap expr_print (sym (rolls-Str s)) ∙ fold-roll-SqlExpr (List Lexeme) (List Lexeme) print_layer print_arm (layer.Str s)
 
-print-Bool : (b : Bool) → expr_print (tree.Bool b) ≡ token (if b then k.True else k.False) ∷ []
+pub print-Bool : (b : Bool) → expr_print (tree.Bool b) ≡ token (if b then k.True else k.False) ∷ []
 unfolding expr_print
 print-Bool b = ap expr_print (sym (rolls-Bool b)) ∙ fold-roll-SqlExpr (List Lexeme) (List Lexeme) print_layer print_arm (layer.Bool b)
 
-print-Null : expr_print tree.Null ≡ token k.Null ∷ []
+pub print-Null : expr_print tree.Null ≡ token k.Null ∷ []
 unfolding expr_print
 print-Null = ap expr_print (sym rolls-Null) ∙ fold-roll-SqlExpr (List Lexeme) (List Lexeme) print_layer print_arm layer.Null
 
-print-Name : (s : List ℕ) → expr_print (tree.Name s) ≡ name_token s ∷ []
+pub print-Name : (s : List ℕ) → expr_print (tree.Name s) ≡ name_token s ∷ []
 unfolding expr_print
 print-Name s = ap expr_print (sym (rolls-Name s)) ∙ fold-roll-SqlExpr (List Lexeme) (List Lexeme) print_layer print_arm (layer.Name s)
 
-print-Neg : (x : SqlExpr) → expr_print (tree.Neg x) ≡ in_parens (token k.Minus ∷ operand (expr_print x))
+pub print-Neg : (x : SqlExpr) → expr_print (tree.Neg x) ≡ in_parens (token k.Minus ∷ operand (expr_print x))
 unfolding expr_print
 print-Neg x = ap expr_print (sym (rolls-Neg x)) ∙ fold-roll-SqlExpr (List Lexeme) (List Lexeme) print_layer print_arm (layer.Neg x)
 
-print-Not : (x : SqlExpr) → expr_print (tree.Not x) ≡ in_parens (token k.Not ∷ expr_print x)
+pub print-Not : (x : SqlExpr) → expr_print (tree.Not x) ≡ in_parens (token k.Not ∷ expr_print x)
 unfolding expr_print
 print-Not x = ap expr_print (sym (rolls-Not x)) ∙ fold-roll-SqlExpr (List Lexeme) (List Lexeme) print_layer print_arm (layer.Not x)
 
-print-Binary : (op : SqlOp) (x y : SqlExpr) → expr_print (tree.Binary op x y) ≡ in_parens (expr_print x ++ token (operator_kind op) ∷ expr_print y)
+pub print-Binary : (op : SqlOp) (x y : SqlExpr) → expr_print (tree.Binary op x y) ≡ in_parens (expr_print x ++ token (operator_kind op) ∷ expr_print y)
 unfolding expr_print
 print-Binary op x y = ap expr_print (sym (rolls-Binary op x y)) ∙ fold-roll-SqlExpr (List Lexeme) (List Lexeme) print_layer print_arm (layer.Binary op x y)
 
-print-IsNull : (x : SqlExpr) (negated : Bool) → expr_print (tree.IsNull x negated) ≡ in_parens (expr_print x ++ token k.Is ∷ not_if negated ++ token k.Null ∷ [])
+pub print-IsNull : (x : SqlExpr) (negated : Bool) → expr_print (tree.IsNull x negated) ≡ in_parens (expr_print x ++ token k.Is ∷ not_if negated ++ token k.Null ∷ [])
 unfolding expr_print
 print-IsNull x negated = ap expr_print (sym (rolls-IsNull x negated)) ∙ fold-roll-SqlExpr (List Lexeme) (List Lexeme) print_layer print_arm (layer.IsNull x negated)
 
-print-InList : (x : SqlExpr) (ys : List SqlExpr) (negated : Bool) → expr_print (tree.InList x ys negated) ≡ in_parens (expr_print x ++ not_if negated ++ token k.In ∷ in_parens (separated (map expr_print ys)))
+pub print-InList : (x : SqlExpr) (ys : List SqlExpr) (negated : Bool) → expr_print (tree.InList x ys negated) ≡ in_parens (expr_print x ++ not_if negated ++ token k.In ∷ in_parens (separated (map expr_print ys)))
 unfolding expr_print
 print-InList x ys negated = ap expr_print (sym (rolls-InList x ys negated)) ∙ fold-roll-SqlExpr (List Lexeme) (List Lexeme) print_layer print_arm (layer.InList x ys negated)
 
-print-Between : (x y z : SqlExpr) (negated : Bool) → expr_print (tree.Between x y z negated) ≡ in_parens (expr_print x ++ not_if negated ++ token k.Between ∷ expr_print y ++ token k.And ∷ expr_print z)
+pub print-Between : (x y z : SqlExpr) (negated : Bool) → expr_print (tree.Between x y z negated) ≡ in_parens (expr_print x ++ not_if negated ++ token k.Between ∷ expr_print y ++ token k.And ∷ expr_print z)
 unfolding expr_print
 print-Between x y z negated = ap expr_print (sym (rolls-Between x y z negated)) ∙ fold-roll-SqlExpr (List Lexeme) (List Lexeme) print_layer print_arm (layer.Between x y z negated)
 
-print-Cast : (x : SqlExpr) (type : SqlType) (trying : Bool) → expr_print (tree.Cast x type trying) ≡ token (if trying then k.TryCast else k.Cast) ∷ in_parens (expr_print x ++ token k.As ∷ type_word type ∷ [])
+pub print-Cast : (x : SqlExpr) (type : SqlType) (trying : Bool) → expr_print (tree.Cast x type trying) ≡ token (if trying then k.TryCast else k.Cast) ∷ in_parens (expr_print x ++ token k.As ∷ type_word type ∷ [])
 unfolding expr_print
 print-Cast x type trying = ap expr_print (sym (rolls-Cast x type trying)) ∙ fold-roll-SqlExpr (List Lexeme) (List Lexeme) print_layer print_arm (layer.Cast x type trying)
 
-print-Coalesce : (xs : List SqlExpr) → expr_print (tree.Coalesce xs) ≡ word (codes "coalesce") ∷ in_parens (separated (map expr_print xs))
+pub print-Coalesce : (xs : List SqlExpr) → expr_print (tree.Coalesce xs) ≡ word (codes "coalesce") ∷ in_parens (separated (map expr_print xs))
 unfolding expr_print
 print-Coalesce xs = ap expr_print (sym (rolls-Coalesce xs)) ∙ fold-roll-SqlExpr (List Lexeme) (List Lexeme) print_layer print_arm (layer.Coalesce xs)
 
-print-CountAll : expr_print tree.CountAll ≡ word (codes "count") ∷ in_parens (token k.Star ∷ [])
+pub print-CountAll : expr_print tree.CountAll ≡ word (codes "count") ∷ in_parens (token k.Star ∷ [])
 unfolding expr_print
 print-CountAll = ap expr_print (sym rolls-CountAll) ∙ fold-roll-SqlExpr (List Lexeme) (List Lexeme) print_layer print_arm layer.CountAll
 
-print-Count : (x : SqlExpr) → expr_print (tree.Count x) ≡ word (codes "count") ∷ in_parens (expr_print x)
+pub print-Count : (x : SqlExpr) → expr_print (tree.Count x) ≡ word (codes "count") ∷ in_parens (expr_print x)
 unfolding expr_print
 print-Count x = ap expr_print (sym (rolls-Count x)) ∙ fold-roll-SqlExpr (List Lexeme) (List Lexeme) print_layer print_arm (layer.Count x)
 
-print-Sum : (x : SqlExpr) → expr_print (tree.Sum x) ≡ word (codes "sum") ∷ in_parens (expr_print x)
+pub print-Sum : (x : SqlExpr) → expr_print (tree.Sum x) ≡ word (codes "sum") ∷ in_parens (expr_print x)
 unfolding expr_print
 print-Sum x = ap expr_print (sym (rolls-Sum x)) ∙ fold-roll-SqlExpr (List Lexeme) (List Lexeme) print_layer print_arm (layer.Sum x)
 
-print-Min : (x : SqlExpr) → expr_print (tree.Min x) ≡ word (codes "min") ∷ in_parens (expr_print x)
+pub print-Min : (x : SqlExpr) → expr_print (tree.Min x) ≡ word (codes "min") ∷ in_parens (expr_print x)
 unfolding expr_print
 print-Min x = ap expr_print (sym (rolls-Min x)) ∙ fold-roll-SqlExpr (List Lexeme) (List Lexeme) print_layer print_arm (layer.Min x)
 
-print-Max : (x : SqlExpr) → expr_print (tree.Max x) ≡ word (codes "max") ∷ in_parens (expr_print x)
+pub print-Max : (x : SqlExpr) → expr_print (tree.Max x) ≡ word (codes "max") ∷ in_parens (expr_print x)
 unfolding expr_print
 print-Max x = ap expr_print (sym (rolls-Max x)) ∙ fold-roll-SqlExpr (List Lexeme) (List Lexeme) print_layer print_arm (layer.Max x)
 
-print-Case : (arms : List SqlArm) (other : Option SqlExpr) →
+pub print-Case : (arms : List SqlArm) (other : Option SqlExpr) →
     expr_print (tree.Case arms other) ≡ token k.Case ∷ all_of (map arm_print arms) ++ clause (token k.Else ∷ []) (option_map expr_print other) ++ token k.EndWord ∷ []
 unfolding expr_print arm_print
 print-Case arms None = ap expr_print (sym (rolls-Case arms None)) ∙ fold-roll-SqlExpr (List Lexeme) (List Lexeme) print_layer print_arm (layer.Case arms None)
 print-Case arms (Some x) = ap expr_print (sym (rolls-Case arms (Some x))) ∙ fold-roll-SqlExpr (List Lexeme) (List Lexeme) print_layer print_arm (layer.Case arms (Some x))
 
-arm_print-arm : (x y : SqlExpr) → arm_print (arm x y) ≡ token k.When ∷ expr_print x ++ token k.Then ∷ expr_print y
+pub arm_print-arm : (x y : SqlExpr) → arm_print (arm x y) ≡ token k.When ∷ expr_print x ++ token k.Then ∷ expr_print y
 unfolding expr_print arm_print
 arm_print-arm x y = fold-roll-SqlArm (List Lexeme) (List Lexeme) print_layer print_arm (record { when = x; then = y })
 

@@ -149,7 +149,7 @@ symbol_token z n le (inr (same, some)) = symbol_here z (symbol_len (slice_index 
 
 -- ---- the lexeme of any token
 
-spellable_parts : (z : Text) (n : ℕ) (kind : TokenKind) → 0 < n → n ≤ length z → IsFound kind z n → IsReadable kind (take n z) → is_too_large Sign kind (take n z) ≡ false → is_spellable (lexeme kind (take n z)) ≡ true
+pub spellable_parts : (z : Text) (n : ℕ) (kind : TokenKind) → 0 < n → n ≤ length z → IsFound kind z n → IsReadable kind (take n z) → is_too_large Sign kind (take n z) ≡ false → is_spellable (lexeme kind (take n z)) ≡ true
 spellable_parts z n token.Word some le h u small =
     let all = subst (λ m. list_all (is_in class.Word) (take m z) ≡ true) h.1 (run_passes class.Word z) in
     word_spellable (word_kind (take n z)) (take n z) (word_any (take n z)) (front_letter z n some h.0 all le) (same_self (word_kind (take n z)))

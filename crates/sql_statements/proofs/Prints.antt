@@ -142,7 +142,7 @@ worded_among (kind ∷ kinds) h w = by_test (str_eq_ignore_ascii_case w (keyword
     by_test false true e f others = others f
     by_test false false e f others = absurd (cc)
 
-option_word_is : (w : List ℕ) → option_word_of (option_word w) ≡ Some w
+pub option_word_is : (w : List ℕ) → option_word_of (option_word w) ≡ Some w
 unfolding word_kind
 option_word_is w = ap (λ b. if_so b w) (worded_among reserved_kinds refl w)
 
