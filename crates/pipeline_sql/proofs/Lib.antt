@@ -1,0 +1,7 @@
+pub mod Told
+pub mod OneAnswer
+pub mod Safe
+pub mod SafeExprs
+pub mod SafeParts
+pub mod SafeStatements
+pub mod PrintLaws

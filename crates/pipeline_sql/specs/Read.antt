@@ -8,6 +8,8 @@ use Rattle.sql_tokens.specs.declared.error.SqlRefusal.TheVariants as refusal
 use Rattle.sql_tokens.specs.Scanning.{Answer, Scans, max_text}
 use Rattle.sql_tree.specs.declared.lexeme.Lexeme.{Lexeme}
 use Rattle.sql_tree.specs.declared.statement.Statement.{Statement}
+use Rattle.sql_tree.specs.Print.{print}
+use Rattle.sql_tree.specs.Spelling.{spelled}
 use Rattle.sql_lexemes.specs.Lexing.{lexeme_of}
 use Rattle.sql_statements.specs.declared.error.Refusal.{Refusal}
 use Rattle.sql_statements.specs.declared.error.Refusal.TheVariants as refused
@@ -69,3 +71,13 @@ abbrev pub placed : Text → List tokens.Token → Refusal → SqlRefusal
 placed text found refused.Memory = refusal.Memory
 placed text found (refused.Unexpected at) = refusal.Unexpected (start_of text found at)
 placed text found (refused.TooLong at) = refusal.ExprTooLong (start_of text found at)
+
+-- ---- the canonical print
+
+-- the canonical text of statements
+abbrev pub print_text : List Statement → Text
+print_text p = spelled (print p)
+
+-- a text that is refused neither for its size nor for the length of an expression
+abbrev pub IsWithinLimits : Text → Type 0
+IsWithinLimits text = (IsRefused text refusal.TextTooLong → ⊥) × ((at : ℕ) → IsRefused text (refusal.ExprTooLong at) → ⊥)

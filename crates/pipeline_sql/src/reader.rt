@@ -55,7 +55,10 @@ pub fn read(alloc: Global, text: &[u8]) -> Result<Statements, SqlRefusal>
     ensures only_refused { (refusal : SqlRefusals) → IsRefused text.now refusal
         → (result ≡ Err refusal) ⊎ (result ≡ Err SqlRefusal.Memory) }
 {
-    let tokens = tokens(alloc, text)?;
+    let tokens = match tokens(alloc, text) {
+        Ok(tokens) => tokens,
+        Err(refusal) => return Err(refusal),
+    };
     let lexemes = lexemes(alloc, text, tokens.as_slice())?;
     match read_tokens(alloc, lexemes.as_slice()) {
         Ok(statements) => Ok(statements),
