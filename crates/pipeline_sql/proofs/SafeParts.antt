@@ -211,9 +211,9 @@ origin_safe w x s (inl h) =
     let a = halves h.0 h.1 h.3 s in
     ⊎_elim
     (λ table.
-        let b = halves table.0 table.1 table.3 a.1 in
-        let i = inner grammar.name table.0 table.2 b.0 table.4 in
-        subst (λ z. Safe (print.origin_print z)) table.5.1 (table_safe true i.0 table.2 i.1 i.2))
+    let b = halves table.0 table.1 table.3 a.1 in
+    let i = inner grammar.name table.0 table.2 b.0 table.4 in
+    subst (λ z. Safe (print.origin_print z)) table.5.1 (table_safe true i.0 table.2 i.1 i.2))
     (source_safe true h.1 x a.1) h.5
 origin_safe w x s (inr h) = source_safe false w x s h
 
@@ -298,8 +298,8 @@ scd_small t n h =
 pub scd_safe : Saves grammar.scd (if_some scd_print)
 scd_safe = maybe_safe (one (the_word (codes "STORED")) ⨾ (λ _. one (the k.As) ⨾ (λ _. one (the_word (codes "SCD")) ⨾ (λ _. one (the_word (codes "TYPE")) ⨾ (λ _. one scd_of))))) scd_print
     (λ w x s h.
-        let low = scd_small h.5.5.5.5.0 x h.5.5.5.5.2 in
-        word_safe (codes "STORED") refl (token_safe k.As refl (word_safe (codes "SCD") refl (word_safe (codes "TYPE") refl (small_safe x (omega arith) safe_nil)))))
+    let low = scd_small h.5.5.5.5.0 x h.5.5.5.5.2 in
+    word_safe (codes "STORED") refl (token_safe k.As refl (word_safe (codes "SCD") refl (word_safe (codes "TYPE") refl (small_safe x (omega arith) safe_nil)))))
 
 abbrev pub track_print : SqlSome → Print
 track_print x = word (codes "TRACK") ∷ word (codes "HISTORY") ∷ token k.On ∷ print.some_print x
@@ -307,7 +307,7 @@ track_print x = word (codes "TRACK") ∷ word (codes "HISTORY") ∷ token k.On �
 pub track_safe : Saves grammar.track (if_some track_print)
 track_safe = maybe_safe (one (the_word (codes "TRACK")) ⨾ (λ _. one (the_word (codes "HISTORY")) ⨾ (λ _. one (the k.On) ⨾ (λ _. grammar.some_of)))) track_print
     (λ w x s h.
-        let a = halves h.0 h.1 h.3 s in
-        let b = halves h.5.0 h.5.1 h.5.3 a.1 in
-        let c = halves h.5.5.0 h.5.5.1 h.5.5.3 b.1 in
-        word_safe (codes "TRACK") refl (word_safe (codes "HISTORY") refl (token_safe k.On refl (some_safe h.5.5.1 x c.1 h.5.5.5))))
+    let a = halves h.0 h.1 h.3 s in
+    let b = halves h.5.0 h.5.1 h.5.3 a.1 in
+    let c = halves h.5.5.0 h.5.5.1 h.5.5.3 b.1 in
+    word_safe (codes "TRACK") refl (word_safe (codes "HISTORY") refl (token_safe k.On refl (some_safe h.5.5.1 x c.1 h.5.5.5))))

@@ -272,10 +272,10 @@ statement_safe w x s (inr (inr (inl h))) =
     let named = name_text n.0 n.2 c.0 n.4 in
     ⊎_elim (insert_safe n.2 named n.5.1 x d.1)
     (λ feed.
-        let e = halves feed.0 feed.1 feed.3 d.1 in
-        let rest = feed.5 in
-        let f = halves rest.0 rest.1 rest.3 e.1 in
-        subst (λ z. Safe (print.statement_print z)) rest.5.1 (feed_safe n.2 rest.2 named (cdc_safe rest.0 rest.2 f.0 rest.4))) n.5.5
+    let e = halves feed.0 feed.1 feed.3 d.1 in
+    let rest = feed.5 in
+    let f = halves rest.0 rest.1 rest.3 e.1 in
+    subst (λ z. Safe (print.statement_print z)) rest.5.1 (feed_safe n.2 rest.2 named (cdc_safe rest.0 rest.2 f.0 rest.4))) n.5.5
 statement_safe w x s (inr (inr (inr h))) =
     let a = halves h.0 h.1 h.3 s in
     let b = halves h.5.0 h.5.1 h.5.3 a.1 in
