@@ -1,6 +1,5 @@
 -- A text is read in one way or refused for one reason.
-use Rattle.std.proofs.Common.{◌≡◌, ◌≢◌, ℕ, suc, ◌+◌, ◌-◌, ◌≤◌, ◌<◌, Bool, true, false, cond, ◌||◌, ◌&&◌, ◌==◌, List, [], ◌∷◌, ◌++◌, length, take, drop, map, slice_index, Result, Ok, Err, refl, sym, ap, ap₂, ◌∙◌, subst, arith, rules, ◌⊎◌, inl, inr, ⊎_elim, length-drop}
-use Rattle.std.proofs.lemmas.Bool.{cases_Bool, cond-true, cond-false}
+use Rattle.std.proofs.Common.{◌≡◌, ◌≢◌, ℕ, ◌+◌, ◌-◌, ◌≤◌, ◌<◌, Bool, true, false, cond, List, [], ◌∷◌, length, take, drop, Ok, Err, refl, sym, ap, ap₂, ◌∙◌, subst, arith, ◌⊎◌, inl, inr}
 use Rattle.std.proofs.lemmas.Bool.Decides.{nat_tests}
 use Rattle.std.proofs.lemmas.List.{drop-drop, map-append}
 use Rattle.std.proofs.lemmas.Str.{utf8_valid_len-IsUtf8}
@@ -23,13 +22,10 @@ use Rattle.std.specs.Str.{str_eq_ignore_ascii_case}
 use Rattle.std.specs.List.{list_all}
 use Rattle.std.proofs.lemmas.Bool.{and_parts}
 use Rattle.sql_lexemes.specs.Lexing.{lexeme, lexeme_of}
-use Rattle.sql_lexemes.specs.Spellable.{is_spellable}
 use Rattle.sql_lexemes.proofs.Slicing.{found as found_piece, IsFound as IsFoundPiece}
 use Rattle.sql_lexemes.proofs.Spelled.{spellable_parts}
 use Rattle.sql_statements.specs.declared.error.Refusal.{Refusal}
 use Rattle.sql_statements.specs.Limits.{AreTokens}
-use Rattle.sql_statements.specs.Pipelines as statements
-use Rattle.sql_statements.specs.Pipelines.{IsShortPipeline}
 use Rattle.sql_statements.proofs.Marks.{tokens_append, is_end}
 use Rattle.sql_statements.proofs.Answers.{wide, one_pipeline}
 use Rattle.sql_statements.proofs.Refusals.{one_refusal, refusals_apart}

@@ -1,10 +1,9 @@
 -- The canonical print of what the grammar gives of a text's tokens is read as it.
-use Rattle.std.proofs.Common.{◌≡◌, ℕ, ◌≤◌, ◌<◌, true, List, [], length, map, Result, Ok, Err, refl, sym, ap, ◌∙◌, subst, arith, ◌⊎◌, inl, inr, ⊎_elim}
+use Rattle.std.proofs.Common.{◌≡◌, ℕ, ◌≤◌, true, List, [], length, map, Result, Ok, Err, refl, sym, ap, ◌∙◌, subst, ◌⊎◌, ⊎_elim}
 use Rattle.std.specs.List.{list_all}
 use Rattle.std.proofs.lemmas.Bool.{cases_lt}
 use Rattle.sql_tokens.specs.declared.token.Token as tokens
 use Rattle.sql_tokens.specs.declared.lexical.Context.TheVariants.{Open}
-use Rattle.sql_tokens.specs.declared.error.SqlRefusal.TheVariants as refusal
 use Rattle.sql_tokens.specs.Scanning.{Answer, Scans, max_text}
 use Rattle.sql_tokens.proofs.Once.{scans_once}
 use Rattle.sql_tree.specs.declared.lexeme.Lexeme.{Lexeme}
@@ -17,11 +16,10 @@ use Rattle.sql_lexemes.proofs.Readback.{reads_back}
 use Rattle.sql_lexemes.proofs.Spelled.{spelled_utf8}
 use Rattle.sql_statements.specs.declared.error.Refusal.{Refusal}
 use Rattle.sql_statements.specs.declared.error.Refusal.TheVariants as refused
-use Rattle.sql_statements.specs.Pipelines as statements
 use Rattle.sql_statements.specs.Pipelines.{IsPipeline, IsShortPipeline, IsTooLong, whole}
 use Rattle.sql_statements.proofs.Prints.{pipeline_reads, prints_apart}
 use Rattle.sql_statements.proofs.Answers.{IsTrueOf, whole_true, wide, one_pipeline}
-use Rattle.pipeline_sql.specs.Read.{Text, IsScanned, lexemes_of, IsRead, print_text, IsWithinLimits}
+use Rattle.pipeline_sql.specs.Read.{IsScanned, lexemes_of, IsRead, print_text, IsWithinLimits}
 use Rattle.pipeline_sql.proofs.SafeStatements.{print_spellable}
 
 -- a pipeline of which no token goes past the limit is within the limit

@@ -1,17 +1,16 @@
 -- Lexemes that a text can have, in any place or where no operand stands before.
-use Rattle.std.proofs.Common.{◌≡◌, ◌≢◌, ℕ, suc, ◌-◌, ◌≤◌, ◌<◌, ◌^◌, Bool, true, false, cond, not, ◌&&◌, ◌||◌, ◌==◌, nat_le, List, [], ◌∷◌, ◌++◌, map, Option, Some, None, refl, sym, ap, ◌∙◌, subst, arith, ℤ, pos, negsuc, ◌⊎◌, inl, inr, ⊎_elim}
+use Rattle.std.proofs.Common.{◌≡◌, ℕ, ◌-◌, ◌≤◌, ◌^◌, Bool, true, false, cond, not, ◌&&◌, ◌||◌, ◌==◌, nat_le, List, [], ◌∷◌, ◌++◌, map, refl, ap, ◌∙◌, subst, arith, ◌⊎◌, inl, inr}
 use Rattle.std.specs.Prelude.{codes, bytes_eq}
 use Rattle.std.specs.List.{list_all, list_any}
 use Rattle.std.specs.Str.{is_utf8}
-use Rattle.std.proofs.lemmas.Bool.{and_parts, and_from, cases_Bool, le-leb}
+use Rattle.std.proofs.lemmas.Bool.{and_parts, and_from, le-leb}
 use Rattle.std.proofs.lemmas.Slice.Eq.{bytes_eq-Decides}
 use Rattle.sql_tree.specs.declared.lexeme.LexemeKind.{LexemeKind}
 use Rattle.sql_tree.specs.declared.lexeme.LexemeKind.TheVariants as k
 use Rattle.sql_tree.specs.declared.lexeme.Lexeme.{Lexeme}
 use Rattle.sql_tree.specs.Lexemes.{kind, same_kind, word_kind, is_any_word}
-use Rattle.sql_tree.specs.Spelling.{is_word, is_bare_name, ends_operand}
+use Rattle.sql_tree.specs.Spelling.{is_bare_name, ends_operand}
 use Rattle.sql_tree.specs.Print.{Print, token, word, numeral, string, name, in_parens, separated}
-use Rattle.sql_phrases.proofs.Terminals.{kinds_alike}
 use Rattle.sql_lexemes.specs.Spellable.{is_quotable, is_spellable, is_within_limit, are_spellable_behind}
 
 -- in any place

@@ -1,5 +1,5 @@
 -- The print of an expression of a text can stand in a text.
-use Rattle.std.proofs.Common.{◌≡◌, ℕ, zero, suc, ◌-◌, ◌≤◌, ◌<◌, ◌^◌, Bool, true, false, cond, if◌then◌else◌, List, [], ◌∷◌, ◌++◌, map, Option, Some, None, refl, sym, ap, ◌∙◌, subst, arith, pos, negsuc}
+use Rattle.std.proofs.Common.{◌≡◌, ℕ, zero, suc, ◌-◌, ◌≤◌, ◌^◌, Bool, true, false, cond, if◌then◌else◌, List, [], ◌∷◌, ◌++◌, map, Option, Some, refl, sym, subst, arith, pos}
 use Rattle.std.specs.Prelude.{codes, option_map}
 use Rattle.sql_tree.specs.declared.expr.SqlArm.{SqlArm}
 use Rattle.sql_tree.specs.declared.expr.SqlOp.{SqlOp}
@@ -11,11 +11,11 @@ use Rattle.sql_tree.specs.declared.lexeme.LexemeKind.TheVariants as k
 use Rattle.sql_tree.specs.declared.lexeme.Lexeme.{Lexeme}
 use Rattle.sql_tree.specs.Lexemes.{kind, same_kind}
 use Rattle.sql_tree.specs.Spelling.{ends_operand}
-use Rattle.sql_tree.specs.Print.{Print, expr_print, arm_print, literal, numeral, token, word, in_parens, operand, not_if, all_of, clause, separated, type_word, operator}
+use Rattle.sql_tree.specs.Print.{expr_print, arm_print, literal, token, in_parens, operand, not_if, all_of, clause, type_word, operator}
 use Rattle.sql_expr.specs.declared.operators.Function.{Function}
 use Rattle.sql_expr.specs.declared.operators.Function.TheVariants as f
 use Rattle.sql_expr.specs.Operators.{negated, call_of}
-use Rattle.sql_expr.specs.Grammar.{Reads, looser, number, negative, string, truth, falsity, null, word as bare_word, quoted, parens, minus, plus, not, binary, is_null, in_list, between, cast, coalesce, count_all, aggregate, case, ReadsList, one, more, ReadsArms, last_arm, next_arm, ReadsElse, no_else, else_of, arm, IsExpr}
+use Rattle.sql_expr.specs.Grammar.{Reads, looser, number, negative, string, truth, falsity, null, word as bare_word, quoted, parens, minus, plus, not, binary, is_null, in_list, between, cast, coalesce, count_all, aggregate, case, ReadsList, one, more, ReadsArms, last_arm, next_arm, ReadsElse, no_else, else_of, arm}
 use Rattle.sql_expr.proofs.Reading.{same_some}
 use Rattle.sql_expr.proofs.Printing.{print-Number, print-Str, print-Bool, print-Null, print-Name, print-Neg, print-Not, print-Binary, print-IsNull, print-InList, print-Between, print-Cast, print-Coalesce, print-CountAll, print-Count, print-Sum, print-Min, print-Max, print-Case, arm_print-arm}
 use Rattle.pipeline_sql.proofs.Safe.{Safe, Open, is_printed, safe_is_open, safe_nil, safe_append, open_append, token_safe, token_open, safe_parens, word_safe, small_safe, negative_open, string_safe, name_safe, AllOpen, separated_open, Spells, spells_before, spells_behind, spells_head, spells_tail, word_named, quoted_named, string_meant}

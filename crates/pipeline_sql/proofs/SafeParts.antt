@@ -1,36 +1,31 @@
 -- The print of a part of a text's statement can stand in a text.
-use Rattle.std.proofs.Common.{◌≡◌, ℕ, suc, ◌-◌, ◌≤◌, ◌<◌, ◌^◌, Bool, true, false, cond, if◌then◌else◌, List, [], ◌∷◌, ◌++◌, map, Option, Some, None, refl, sym, ap, ◌∙◌, subst, append-nil, arith, ◌⊎◌, inl, inr, ⊎_elim}
+use Rattle.std.proofs.Common.{◌≡◌, ℕ, ◌-◌, ◌≤◌, Bool, true, false, if◌then◌else◌, List, [], ◌∷◌, ◌++◌, map, Option, Some, refl, subst, arith, ◌⊎◌, inl, inr, ⊎_elim}
 use Rattle.std.specs.Prelude.{codes, ◌&&◌, ◌||◌, ◌==◌}
-use Rattle.std.specs.List.{list_all}
-use Rattle.std.specs.Str.{is_utf8, str_eq_ignore_ascii_case}
+use Rattle.std.specs.Str.{is_utf8}
 use Rattle.std.proofs.lemmas.Bool.{and_parts, and_from, or_cases, eqb-true}
-use Rattle.sql_tree.specs.declared.expr.SqlExpr.{SqlExpr}
 use Rattle.sql_tree.specs.declared.statement.SqlAction.{SqlAction}
 use Rattle.sql_tree.specs.declared.statement.SqlAction.TheVariants as action
-use Rattle.sql_tree.specs.declared.statement.SqlOrigin.{SqlOrigin}
 use Rattle.sql_tree.specs.declared.statement.SqlOrigin.TheVariants as origin
 use Rattle.sql_tree.specs.declared.statement.OptionValue.{OptionValue}
 use Rattle.sql_tree.specs.declared.statement.OptionValue.TheVariants as value
 use Rattle.sql_tree.specs.declared.statement.SqlOption.{SqlOption}
-use Rattle.sql_tree.specs.declared.statement.SqlSequence.{SqlSequence}
-use Rattle.sql_tree.specs.declared.statement.SqlSequence.TheVariants as sequence
 use Rattle.sql_tree.specs.declared.statement.SqlSome.{SqlSome}
 use Rattle.sql_tree.specs.declared.statement.SqlSome.TheVariants as some
 use Rattle.sql_tree.specs.declared.lexeme.LexemeKind.{LexemeKind}
 use Rattle.sql_tree.specs.declared.lexeme.LexemeKind.TheVariants as k
 use Rattle.sql_tree.specs.declared.lexeme.Lexeme.{Lexeme}
-use Rattle.sql_tree.specs.Lexemes.{same_kind, word_kind, kind_among, reserved_kinds, keyword, is_any_word, is_bare}
+use Rattle.sql_tree.specs.Lexemes.{same_kind, word_kind, is_any_word}
 use Rattle.sql_tree.specs.Spelling.{is_word}
 use Rattle.sql_tree.specs.Print as print
 use Rattle.sql_tree.specs.Print.{Print, token, word, numeral, string, name, option_word, in_parens, separated, names, one_name, if_some}
-use Rattle.sql_phrases.specs.Tokens.{is, is_name, is_worded, if_so, the, the_word, name_of, string_of, option_word_of, value_of, scd_of, read_files_of}
+use Rattle.sql_phrases.specs.Tokens.{is, is_name, is_worded, if_so, the, the_word, value_of, scd_of}
 use Rattle.sql_phrases.proofs.Terminals.{kinds_alike, alike_self}
 use Rattle.sql_lexemes.specs.Spellable.{is_spellable}
-use Rattle.sql_statements.specs.Languages.{Language, one, nothing, either, followed, ◌>>=◌ as ◌⨾◌}
+use Rattle.sql_statements.specs.Languages.{Language, one, followed, ◌>>=◌ as ◌⨾◌}
 use Rattle.sql_statements.specs.Languages as language
 use Rattle.sql_statements.specs.Grammar as grammar
 use Rattle.sql_statements.proofs.Prints.{option_word_is}
-use Rattle.pipeline_sql.proofs.Safe.{Safe, Open, is_plain, safe_is_open, safe_nil, safe_cons, safe_append, open_append, token_safe, token_open, safe_parens, word_safe, small_safe, string_safe, name_safe, IsNameText, AllOpen, separated_open, Spells, spells_before, spells_behind, spells_head, spells_tail, halves, word_named, quoted_named, string_meant}
+use Rattle.pipeline_sql.proofs.Safe.{Safe, Open, is_plain, safe_is_open, safe_nil, safe_cons, token_safe, token_open, safe_parens, word_safe, small_safe, string_safe, name_safe, IsNameText, AllOpen, separated_open, Spells, spells_before, spells_behind, spells_head, spells_tail, halves, word_named, quoted_named, string_meant}
 
 -- what a language gives is printed so that it can stand in any place, or where no operand stands before
 abbrev pub Saves : {A : Type 0} → Language A → (A → Print) → Type 0

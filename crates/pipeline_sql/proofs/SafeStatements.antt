@@ -1,31 +1,27 @@
 -- The print of the statements of a text can stand in a text.
-use Rattle.std.proofs.Common.{◌≡◌, ℕ, Bool, true, false, if◌then◌else◌, List, [], ◌∷◌, ◌++◌, map, Option, Some, None, refl, sym, ap, ◌∙◌, subst, ◌⊎◌, inl, inr, ⊎_elim}
+use Rattle.std.proofs.Common.{◌≡◌, ℕ, true, List, [], ◌∷◌, ◌++◌, Option, refl, subst, ◌⊎◌, inl, inr, ⊎_elim}
 use Rattle.std.specs.Prelude.{codes}
 use Rattle.std.specs.List.{list_all}
 use Rattle.sql_tree.specs.declared.expr.SqlExpr.{SqlExpr}
 use Rattle.sql_tree.specs.declared.statement.Statement.{Statement}
 use Rattle.sql_tree.specs.declared.statement.Statement.TheVariants as statement
 use Rattle.sql_tree.specs.declared.statement.SqlItem.{SqlItem}
-use Rattle.sql_tree.specs.declared.statement.SqlItem.TheVariants as item
 use Rattle.sql_tree.specs.declared.statement.Select.{Select}
-use Rattle.sql_tree.specs.declared.statement.Out.{Out}
-use Rattle.sql_tree.specs.declared.statement.Out.TheVariants as out
 use Rattle.sql_tree.specs.declared.statement.CdcTree.{CdcTree}
 use Rattle.sql_tree.specs.declared.lexeme.LexemeKind.TheVariants as k
 use Rattle.sql_tree.specs.declared.lexeme.Lexeme.{Lexeme}
-use Rattle.sql_tree.specs.Lexemes.{type_of}
 use Rattle.sql_tree.specs.Print as print
-use Rattle.sql_tree.specs.Print.{Print, token, word, name, in_parens, separated, names, if_some, expr_print, exprs_print}
+use Rattle.sql_tree.specs.Print.{Print, token, word, separated, if_some, expr_print}
 use Rattle.sql_expr.specs.Grammar.{IsExpr}
 use Rattle.sql_phrases.specs.Tokens.{the, the_word}
 use Rattle.sql_lexemes.specs.Spellable.{is_spellable, are_spellable}
-use Rattle.sql_statements.specs.Languages.{Language, one, nothing, either, ◌>>=◌ as ◌⨾◌}
+use Rattle.sql_statements.specs.Languages.{one, ◌>>=◌ as ◌⨾◌}
 use Rattle.sql_statements.specs.Languages as language
 use Rattle.sql_statements.specs.Grammar as grammar
 use Rattle.sql_statements.specs.Pipelines.{IsPipeline}
 use Rattle.pipeline_sql.proofs.Safe.{Safe, Open, safe_is_open, safe_nil, safe_append, open_append, token_safe, token_open, safe_parens, word_safe, name_safe, IsNameText, AllOpen, separated_open, Spells, halves}
 use Rattle.pipeline_sql.proofs.SafeExprs.{expr_open, type_safe}
-use Rattle.pipeline_sql.proofs.SafeParts.{Saves, Opens, name_text, list_open, inner, names_safe, origin_safe, sequence_safe, except_safe, alias_safe, action_safe, ignoring_safe, maybe_safe, columns_print, columns_safe, scd_print, scd_safe, track_print, track_safe}
+use Rattle.pipeline_sql.proofs.SafeParts.{Saves, Opens, name_text, list_open, inner, names_safe, origin_safe, sequence_safe, except_safe, alias_safe, action_safe, ignoring_safe, maybe_safe, columns_safe, scd_safe, track_safe}
 
 exprs_open : Opens IsExpr expr_print
 exprs_open w x s h = expr_open h s

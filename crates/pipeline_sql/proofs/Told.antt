@@ -1,10 +1,9 @@
 -- What the calls below say of a text, put together.
-use Rattle.std.proofs.Common.{◌≡◌, ◌≢◌, ℕ, zero, suc, ◌≤◌, ◌<◌, Bool, true, false, cond, List, [], ◌∷◌, length, take, map, Result, Ok, Err, refl, sym, ap, ◌∙◌, subst, arith, ◌⊎◌, inl, inr, ⊎_elim, IsUtf8}
+use Rattle.std.proofs.Common.{◌≡◌, ◌≢◌, ℕ, zero, suc, ◌≤◌, ◌<◌, Bool, true, false, cond, List, [], ◌∷◌, length, take, Result, Ok, Err, refl, sym, ap, ◌∙◌, subst, arith, ◌⊎◌, inl, inr, ⊎_elim, IsUtf8}
 use Rattle.std.specs.Prelude.{IfOk, IfErr}
-use Rattle.std.specs.List.{list_all}
 use Rattle.std.specs.Str.{is_utf8}
 use Rattle.std.specs.Str.Lossy.{utf8_valid_len, valid_len_up_to}
-use Rattle.std.proofs.lemmas.Bool.{both_ways, and_parts, cases_lt}
+use Rattle.std.proofs.lemmas.Bool.{both_ways, cases_lt}
 use Rattle.std.proofs.lemmas.List.{take_all}
 use Rattle.std.proofs.lemmas.Str.{IsUtf8-nil, IsUtf8-from_is_utf8, utf8_valid_len-IsUtf8}
 use Rattle.sql_tokens.specs.declared.token.Token as tokens
@@ -23,7 +22,7 @@ use Rattle.sql_statements.specs.declared.error.Refusal.TheVariants as causes
 use Rattle.sql_statements.specs.Limits.{AreTokens}
 use Rattle.sql_statements.specs.Pipelines as statements
 use Rattle.sql_statements.specs.Pipelines.{IsShortPipeline}
-use Rattle.pipeline_sql.specs.Read.{Text, IsScanned, lexemes_of, IsRead, IsRefusedAt, IsBroken, IsRefused, placed}
+use Rattle.pipeline_sql.specs.Read.{Text, IsScanned, lexemes_of, IsRead, IsRefusedAt, IsRefused, placed}
 
 -- ---- tokens
 

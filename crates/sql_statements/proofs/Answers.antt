@@ -1,10 +1,9 @@
 -- The grammar has one reading of the tokens, and the reader's answer is what the grammar says.
-use Rattle.std.proofs.Common.{◌≡◌, ◌≢◌, ℕ, zero, suc, ◌+◌, ◌-◌, ◌≤◌, ◌<◌, Bool, true, false, cond, List, [], ◌∷◌, ◌++◌, length, take, drop, Result, Ok, Err, refl, sym, ap, ◌∙◌, subst, append_assoc, append-nil, arith, length-append, le_refl, ◌⊎◌, inl, inr, ⊎_elim}
+use Rattle.std.proofs.Common.{◌≡◌, ◌≢◌, ℕ, suc, ◌+◌, ◌-◌, ◌≤◌, ◌<◌, List, [], ◌∷◌, ◌++◌, length, take, drop, Result, Ok, Err, refl, sym, ap, ◌∙◌, subst, append_assoc, append-nil, arith, length-append, le_refl, ◌⊎◌, inl, inr, ⊎_elim}
 use Rattle.std.specs.Prelude.{IfOk}
 use Rattle.std.proofs.Math.Seq.{take-append_seam, take-append-add, drop-append_seam}
 use Rattle.sql_tree.specs.declared.statement.Statement.{Statement}
 use Rattle.sql_tree.specs.declared.lexeme.Lexeme.{Lexeme}
-use Rattle.sql_phrases.proofs.Phrases.{front}
 use Rattle.sql_expr.specs.Grammar.{IsExpr}
 use Rattle.sql_statements.specs.declared.error.ParseError.{ParseError}
 use Rattle.sql_statements.specs.declared.error.ParseError.TheVariants as errors
@@ -13,9 +12,9 @@ use Rattle.sql_statements.specs.declared.error.Refusal.TheVariants.{Memory, Unex
 use Rattle.sql_statements.specs.Parsers.{Outcome}
 use Rattle.sql_statements.specs.Grammar.{pipeline}
 use Rattle.sql_statements.specs.Descent.{pipeline as pipeline_reader}
-use Rattle.sql_statements.specs.Limits.{IsShort, IsFull, Cut, Begun, limited, unlimited}
+use Rattle.sql_statements.specs.Limits.{IsShort, IsFull, Cut, limited, unlimited}
 use Rattle.sql_statements.specs.Pipelines.{IsPipeline, IsShortPipeline, BeginsPipeline, IsTooLong, ended, whole, IsAnswer}
-use Rattle.sql_statements.proofs.Good.{Meets, Taken, Halted, Echoes, Agrees, IsLong, short_in}
+use Rattle.sql_statements.proofs.Good.{Meets, Echoes, IsLong, Begun, short_in}
 use Rattle.sql_statements.proofs.Window.{limited_completes, unlimited_completes}
 use Rattle.sql_statements.proofs.Pipelines.{good_pipeline}
 

@@ -1,5 +1,5 @@
 -- What words of a statement begin with.
-use Rattle.std.proofs.Common.{◌≡◌, ◌≢◌, ℕ, ◌<◌, Bool, true, false, cond, List, [], ◌∷◌, ◌++◌, Option, Some, None, refl, sym, ap, ◌∙◌, subst, append-nil, arith}
+use Rattle.std.proofs.Common.{◌≡◌, ◌≢◌, ℕ, ◌<◌, Bool, true, false, List, [], ◌∷◌, ◌++◌, Option, Some, refl, sym, ap, ◌∙◌, append-nil, arith}
 use Rattle.std.specs.Prelude.{◌&&◌}
 use Rattle.std.specs.Str.{bytes_eq, str_eq_ignore_ascii_case, str_to_ascii_lowercase}
 use Rattle.std.proofs.lemmas.Slice.Eq.{bytes_eq-Decides}
@@ -8,7 +8,7 @@ use Rattle.sql_tree.specs.declared.lexeme.LexemeKind.TheVariants as k
 use Rattle.sql_tree.specs.declared.lexeme.Lexeme.{Lexeme}
 use Rattle.sql_tree.specs.Lexemes.{kind, same_kind, is_bare}
 use Rattle.sql_tree.specs.Print.{word as word_token}
-use Rattle.sql_phrases.proofs.Terminals.{kinds_alike, alike, alike_self, plain}
+use Rattle.sql_phrases.proofs.Terminals.{kinds_alike, alike_self, plain}
 use Rattle.sql_expr.specs.Operators.{binds}
 use Rattle.sql_expr.proofs.Reading.{unlike, first_true}
 use Rattle.sql_phrases.specs.Tokens.{is, if_so, the, the_word}

@@ -1,22 +1,21 @@
 -- Readers that do what a language says: they read its words, they stop where none of its words goes on or where an
 -- outermost expression is too long, and their answer depends on no token behind the next one.
-use Rattle.std.proofs.Common.{◌≡◌, ◌≢◌, ℕ, zero, suc, ◌+◌, ◌-◌, ◌≤◌, ◌<◌, le_refl, le_trans, Bool, true, false, cond, if◌then◌else◌, List, [], ◌∷◌, ◌++◌, length, Option, Some, None, Result, Ok, Err, refl, sym, ap, ◌∙◌, subst, append_assoc, append-nil, arith, length-append, ◌⊎◌, inl, inr, ⊎_elim}
+use Rattle.std.proofs.Common.{◌≡◌, ◌≢◌, ℕ, ◌+◌, ◌-◌, ◌≤◌, ◌<◌, le_refl, Bool, true, false, cond, if◌then◌else◌, List, [], ◌∷◌, ◌++◌, length, Option, Some, None, Ok, Err, refl, sym, ap, ◌∙◌, subst, append_assoc, append-nil, arith, length-append, ◌⊎◌, inl, inr, ⊎_elim}
 use Rattle.sql_tree.specs.declared.expr.SqlExpr.{SqlExpr}
-use Rattle.sql_tree.specs.declared.lexeme.LexemeKind.{LexemeKind}
 use Rattle.sql_tree.specs.declared.lexeme.LexemeKind.TheVariants as k
 use Rattle.sql_tree.specs.declared.lexeme.Lexeme.{Lexeme}
-use Rattle.sql_tree.specs.Lexemes.{kind, same_kind}
-use Rattle.sql_phrases.specs.Parsers.{next, sees}
-use Rattle.sql_phrases.proofs.Phrases.{front, front_nil, front_cons, front_append, same_kinds}
-use Rattle.sql_phrases.proofs.Terminals.{kinds_alike, alike}
+use Rattle.sql_tree.specs.Lexemes.{kind}
+use Rattle.sql_phrases.specs.Parsers.{next}
+use Rattle.sql_phrases.proofs.Phrases.{front, front_append}
+use Rattle.sql_phrases.proofs.Terminals.{alike}
 use Rattle.sql_expr.specs.Operators.{binds}
-use Rattle.sql_expr.specs.Grammar.{IsExpr}
+use Rattle.sql_expr.specs.Grammar.{IsExpr, BeginsExpr, max_tokens}
 use Rattle.sql_expr.proofs.Reading.{nonempty, no_star}
 use Rattle.sql_statements.specs.declared.error.ParseError.{ParseError}
 use Rattle.sql_statements.specs.declared.error.ParseError.TheVariants.{Memory, Unexpected, TooLong}
-use Rattle.sql_statements.specs.Languages.{Language, one, nothing, either, separated as Separated, ◌>>=◌ as ◌⨾◌}
-use Rattle.sql_statements.specs.Parsers.{Outcome, Parser, and_then, ◌>>=◌, pure, some_token, of_next, token, begins, choose, rest_from, separated}
-use Rattle.sql_statements.specs.Limits.{IsShort, IsMarked, mark, AreTokens, unlimited, limited, IsOpen, IsFull, Cut, Begun}
+use Rattle.sql_statements.specs.Languages.{Language, one, nothing, either, ◌>>=◌ as ◌⨾◌}
+use Rattle.sql_statements.specs.Parsers.{Outcome, Parser, and_then, ◌>>=◌, pure, some_token, of_next, token, begins, choose}
+use Rattle.sql_statements.specs.Limits.{IsShort, IsMarked, mark, AreTokens, unlimited, limited, IsFull, Cut}
 use Rattle.sql_statements.proofs.Marks.{tokens_before, tokens_behind, only_mark, not_empty, place, same_before, front_more}
 
 -- a language over the language of the outermost expressions
@@ -33,6 +32,14 @@ pub marked_wider : Wider IsShort IsMarked
 marked_wider w x h = inl h
 
 -- ---- what a reader did
+
+-- a beginning of an expression that has not more than the most tokens
+abbrev pub IsOpen : List Lexeme → Type 0
+IsOpen v = BeginsExpr v × (length v ≤ max_tokens)
+
+-- a beginning whose outermost expressions are within the limit so far
+abbrev pub Begun : {A : Type 0} → (Language SqlExpr → Language A) → List Lexeme → Type 0
+Begun {A} L w = ((more : List Lexeme) × (x : A) × L IsShort (w ++ more) x) ⊎ Cut L IsOpen w
 
 -- Whatever stands behind the next token, the answer is the same. The number is of turns, which are enough where they are
 -- no less than the tokens.

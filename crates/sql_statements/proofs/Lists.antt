@@ -1,22 +1,22 @@
 -- Lists with a token between two of their items.
-use Rattle.std.proofs.Common.{◌≡◌, ◌≢◌, ℕ, zero, suc, ◌+◌, ◌-◌, ◌≤◌, ◌<◌, le_refl, le_trans, Bool, true, false, cond, if◌then◌else◌, List, [], ◌∷◌, ◌++◌, length, Result, Ok, Err, refl, sym, ap, ◌∙◌, subst, append_assoc, append-nil, arith, length-append, ◌⊎◌, inl, inr, ⊎_elim}
+use Rattle.std.proofs.Common.{◌≡◌, ◌≢◌, ℕ, zero, suc, ◌+◌, ◌-◌, ◌≤◌, le_refl, Bool, true, false, cond, List, [], ◌∷◌, ◌++◌, length, Ok, Err, refl, sym, ap, ◌∙◌, subst, append_assoc, append-nil, arith, length-append, ◌⊎◌, inl, inr, ⊎_elim}
 use Rattle.sql_tree.specs.declared.expr.SqlExpr.{SqlExpr}
 use Rattle.sql_tree.specs.declared.lexeme.LexemeKind.{LexemeKind}
 use Rattle.sql_tree.specs.declared.lexeme.LexemeKind.TheVariants as k
 use Rattle.sql_tree.specs.declared.lexeme.Lexeme.{Lexeme}
 use Rattle.sql_tree.specs.Lexemes.{kind, same_kind}
 use Rattle.sql_phrases.specs.Parsers.{next, sees}
-use Rattle.sql_phrases.proofs.Phrases.{front, front_nil, front_cons, front_append, same_kinds}
+use Rattle.sql_phrases.proofs.Phrases.{front, same_kinds}
 use Rattle.sql_phrases.proofs.Terminals.{kinds_alike, alike}
 use Rattle.sql_expr.proofs.Reading.{unlike}
 use Rattle.sql_statements.specs.declared.error.ParseError.{ParseError}
-use Rattle.sql_statements.specs.declared.error.ParseError.TheVariants.{Memory, Unexpected, TooLong}
-use Rattle.sql_statements.specs.Languages.{Language, nothing, followed, separated as Separated, ◌>>=◌ as ◌⨾◌}
-use Rattle.sql_statements.specs.Parsers.{Outcome, Parser, and_then, ◌>>=◌, pure, rest_from, separated}
+use Rattle.sql_statements.specs.declared.error.ParseError.TheVariants.{Unexpected}
+use Rattle.sql_statements.specs.Languages.{Language, followed, separated as Separated, ◌>>=◌ as ◌⨾◌}
+use Rattle.sql_statements.specs.Parsers.{Outcome, Parser, and_then, ◌>>=◌, rest_from, separated}
 use Rattle.sql_expr.specs.Grammar.{IsExpr}
 use Rattle.sql_statements.specs.Limits.{IsShort, IsMarked, mark, AreTokens, unlimited, limited}
 use Rattle.sql_statements.proofs.Marks.{tokens_before, tokens_behind, not_empty, place}
-use Rattle.sql_statements.proofs.Good.{Over, Wider, Echoes, Taken, Halted, Why, Meets, why_inside, meets_bind, meets_alike, meets_weaker, Agrees, agrees_bind, Completes, short_in, Plain, Filled, Fills, Reaches, reaches_bind, Good, good_bind, good_as, some_in}
+use Rattle.sql_statements.proofs.Good.{Over, Wider, Echoes, Meets, why_inside, meets_bind, Agrees, agrees_bind, Completes, short_in, Plain, Filled, Fills, reaches_bind, Good, good_bind, good_as}
 
 -- what goes on with these items
 abbrev pub Rest : {A : Type 0} → LexemeKind → Language A → List A → Language (List A)

@@ -1,9 +1,8 @@
 -- Where a mark stands among tokens, and that no expression has one.
-use Rattle.std.proofs.Common.{◌≡◌, ◌≢◌, ℕ, suc, ◌+◌, ◌≤◌, ◌<◌, Bool, true, false, cond, List, [], ◌∷◌, ◌++◌, length, take, Option, Some, None, refl, sym, ap, ap₂, ◌∙◌, subst, append_assoc, arith, length-append, ◌⊎◌, inl, inr, ⊎_elim}
+use Rattle.std.proofs.Common.{◌≡◌, ◌≢◌, ℕ, ◌+◌, ◌<◌, Bool, true, false, cond, List, [], ◌∷◌, ◌++◌, length, take, Option, Some, None, refl, sym, ap, ap₂, ◌∙◌, arith, length-append, ◌⊎◌, inl, inr, ⊎_elim}
 use Rattle.std.proofs.Math.Seq.{take-append_seam}
 use Rattle.sql_tree.specs.declared.expr.SqlExpr.{SqlExpr}
 use Rattle.sql_tree.specs.declared.expr.SqlArm.{SqlArm}
-use Rattle.sql_tree.specs.declared.expr.SqlOp.{SqlOp}
 use Rattle.sql_tree.specs.declared.expr.SqlType.{SqlType}
 use Rattle.sql_tree.specs.declared.lexeme.LexemeKind.{LexemeKind}
 use Rattle.sql_tree.specs.declared.lexeme.LexemeKind.TheVariants as k

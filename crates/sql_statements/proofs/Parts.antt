@@ -1,38 +1,31 @@
 -- The parts of a statement that have no expressions: their readers are good.
-use Rattle.std.proofs.Common.{◌≡◌, ◌≢◌, ℕ, ◌<◌, Bool, true, false, cond, List, [], ◌∷◌, ◌++◌, length, Option, Some, None, refl, sym, ap, ◌∙◌, subst, append-nil, append_assoc, arith, ◌⊎◌, inl, inr, ⊎_elim}
+use Rattle.std.proofs.Common.{◌≡◌, ◌≢◌, ℕ, Bool, true, false, cond, List, [], ◌∷◌, ◌++◌, length, Option, Some, None, refl, sym, ap, ◌∙◌, subst, append_assoc, ◌⊎◌, inl, inr, ⊎_elim}
 use Rattle.std.specs.Prelude.{codes, ◌||◌}
 use Rattle.std.specs.Str.{str_eq_ignore_ascii_case}
 use Rattle.sql_tree.specs.declared.expr.SqlExpr.{SqlExpr}
-use Rattle.sql_tree.specs.declared.statement.SqlAction.{SqlAction}
 use Rattle.sql_tree.specs.declared.statement.SqlAction.TheVariants as action
 use Rattle.sql_tree.specs.declared.statement.SqlOrigin.{SqlOrigin}
 use Rattle.sql_tree.specs.declared.statement.SqlOrigin.TheVariants as origin
-use Rattle.sql_tree.specs.declared.statement.OptionValue.{OptionValue}
 use Rattle.sql_tree.specs.declared.statement.OptionValue.TheVariants as value
-use Rattle.sql_tree.specs.declared.statement.SqlOption.{SqlOption}
-use Rattle.sql_tree.specs.declared.statement.SqlSequence.{SqlSequence}
 use Rattle.sql_tree.specs.declared.statement.SqlSequence.TheVariants as sequence
-use Rattle.sql_tree.specs.declared.statement.SqlSome.{SqlSome}
 use Rattle.sql_tree.specs.declared.statement.SqlSome.TheVariants as some
 use Rattle.sql_tree.specs.declared.lexeme.LexemeKind.{LexemeKind}
 use Rattle.sql_tree.specs.declared.lexeme.LexemeKind.TheVariants as k
 use Rattle.sql_tree.specs.declared.lexeme.Lexeme.{Lexeme}
 use Rattle.sql_tree.specs.Lexemes.{kind, same_kind, is_bare, is_any_word}
 use Rattle.sql_tree.specs.Print.{word as word_token, string as string_token, numeral}
-use Rattle.sql_phrases.proofs.Terminals.{kinds_alike, alike, alike_self, plain}
-use Rattle.sql_expr.proofs.Reading.{unlike}
+use Rattle.sql_phrases.proofs.Terminals.{kinds_alike, alike, plain}
 use Rattle.sql_phrases.specs.Tokens.{is, is_name, if_so, the, the_word, name_of, string_of, option_word_of, value_of, scd_of, read_files_of, other_name_of}
 use Rattle.sql_statements.specs.Languages.{Language, one, nothing, either, followed, ◌>>=◌ as ◌⨾◌}
 use Rattle.sql_statements.specs.Languages as language
 use Rattle.sql_statements.specs.Parsers.{Parser, and_then, ◌>>=◌, pure, some_token, of_next, token, begins, choose, separated, rest_from}
 use Rattle.sql_statements.specs.Grammar as grammar
-use Rattle.sql_statements.specs.Descent as descent
 use Rattle.sql_statements.specs.Descent.{in_parens, maybe, names, comment, option, options, files, files_or_table, source, streamed, origin_of, some_of, sequence_of, except, alias, reaction, violation, ignoring, columns_of, scd, track}
-use Rattle.sql_statements.specs.Limits.{IsShort, mark}
+use Rattle.sql_statements.specs.Limits.{mark}
 use Rattle.sql_statements.proofs.Marks.{is_end, the_mark}
 use Rattle.sql_statements.proofs.Good.{Over, Any, Good, good_bind, good_pure, good_as, good_token, good_choose}
 use Rattle.sql_statements.proofs.Lists.{Rest, After, good_rest, good_separated}
-use Rattle.sql_statements.proofs.Firsts.{if_so_true, the_self, word_self, the_kind, bare_kind, opens_kind, opens_word, starts_kind, starts_word, not_kind, no_word, word_kind, other_word, opens_other, opens_not, nothing_then, maybe_start}
+use Rattle.sql_statements.proofs.Firsts.{if_so_true, the_self, word_self, bare_kind, opens_kind, starts_kind, starts_word, not_kind, word_kind, opens_other, maybe_start}
 
 -- ---- helpers
 

@@ -1,5 +1,5 @@
 -- What is printed is read again.
-use Rattle.std.proofs.Common.{◌≡◌, ◌≢◌, ℕ, Bool, true, false, cond, if◌then◌else◌, List, [], ◌∷◌, ◌++◌, map, Option, Some, None, refl, sym, ap, ◌∙◌, subst, append_assoc, append-nil, ◌⊎◌, inl, inr, ⊎_elim}
+use Rattle.std.proofs.Common.{◌≡◌, ℕ, Bool, true, false, cond, if◌then◌else◌, List, [], ◌∷◌, ◌++◌, map, Option, Some, None, refl, sym, ap, ◌∙◌, subst, append_assoc, append-nil, ◌⊎◌, inl, inr, ⊎_elim}
 use Rattle.std.specs.Prelude.{codes, ◌&&◌, ◌||◌, ◌==◌}
 use Rattle.std.specs.List.{list_all}
 use Rattle.std.specs.Str.{str_eq_ignore_ascii_case}
@@ -28,19 +28,19 @@ use Rattle.sql_tree.specs.declared.statement.CdcTree.{CdcTree}
 use Rattle.sql_tree.specs.declared.lexeme.LexemeKind.{LexemeKind}
 use Rattle.sql_tree.specs.declared.lexeme.LexemeKind.TheVariants as k
 use Rattle.sql_tree.specs.declared.lexeme.Lexeme.{Lexeme}
-use Rattle.sql_tree.specs.Lexemes.{kind, same_kind, is_bare, type_of, word_kind, kind_among, reserved_kinds, keyword}
+use Rattle.sql_tree.specs.Lexemes.{kind, same_kind, type_of, word_kind, kind_among, reserved_kinds, keyword}
 use Rattle.sql_tree.specs.Spelling.{is_bare_name}
 use Rattle.sql_tree.specs.Print as print
 use Rattle.sql_tree.specs.Print.{Print, token, word, numeral, string, name, option_word, type_word, in_parens, separated, names, one_name, if_some, expr_print, exprs_print}
 use Rattle.sql_phrases.proofs.Terminals.{alike_self}
 use Rattle.sql_expr.specs.Grammar.{IsExpr}
 use Rattle.sql_expr.proofs.Printing.{print_reads}
-use Rattle.sql_phrases.specs.Tokens.{is, is_name, is_worded, if_so, the, the_word, name_of, string_of, option_word_of, value_of, scd_of, read_files_of}
+use Rattle.sql_phrases.specs.Tokens.{is, is_worded, if_so, the, the_word, name_of, string_of, option_word_of, value_of, scd_of, read_files_of}
 use Rattle.sql_statements.specs.Languages.{Language, one, nothing, either, followed, ◌>>=◌ as ◌⨾◌}
 use Rattle.sql_statements.specs.Languages as language
 use Rattle.sql_statements.specs.Grammar as grammar
 use Rattle.sql_statements.specs.Pipelines.{IsPipeline}
-use Rattle.sql_statements.proofs.Firsts.{word_self, the_kind, if_so_true}
+use Rattle.sql_statements.proofs.Firsts.{word_self}
 use Rattle.sql_statements.proofs.Answers.{one_pipeline}
 
 -- ---- writing words of languages

@@ -1,34 +1,31 @@
 -- The parts of a statement that have expressions: their readers are good.
-use Rattle.std.proofs.Common.{◌≡◌, ◌≢◌, ℕ, ◌<◌, Bool, true, false, cond, List, [], ◌∷◌, ◌++◌, length, Option, Some, None, refl, sym, ap, ◌∙◌, subst, append-nil, append_assoc, arith, ◌⊎◌, inl, inr, ⊎_elim}
+use Rattle.std.proofs.Common.{◌≡◌, ◌≢◌, ℕ, ◌<◌, Bool, true, false, List, [], ◌∷◌, ◌++◌, length, Option, Some, None, refl, sym, ap, ◌∙◌, subst, append-nil, append_assoc, arith, ◌⊎◌, ⊎_elim}
 use Rattle.std.specs.Prelude.{codes, ◌||◌}
 use Rattle.sql_tree.specs.declared.expr.SqlExpr.{SqlExpr}
 use Rattle.sql_tree.specs.declared.expr.SqlType.TheVariants as type
 use Rattle.sql_tree.specs.declared.statement.SqlItem.{SqlItem}
 use Rattle.sql_tree.specs.declared.statement.SqlItem.TheVariants as item
 use Rattle.sql_tree.specs.declared.statement.Select.{Select}
-use Rattle.sql_tree.specs.declared.statement.Out.{Out}
 use Rattle.sql_tree.specs.declared.statement.Out.TheVariants as out
-use Rattle.sql_tree.specs.declared.statement.CdcTree.{CdcTree}
 use Rattle.sql_tree.specs.declared.lexeme.LexemeKind.{LexemeKind}
 use Rattle.sql_tree.specs.declared.lexeme.LexemeKind.TheVariants as k
 use Rattle.sql_tree.specs.declared.lexeme.Lexeme.{Lexeme}
 use Rattle.sql_tree.specs.Lexemes.{kind, same_kind, is_bare, type_of}
 use Rattle.sql_tree.specs.Print.{word as word_token}
-use Rattle.sql_phrases.proofs.Terminals.{kinds_alike, alike}
+use Rattle.sql_phrases.proofs.Terminals.{kinds_alike}
 use Rattle.sql_expr.specs.Operators.{binds}
 use Rattle.sql_expr.proofs.Reading.{unlike}
 use Rattle.sql_phrases.specs.Tokens.{is, is_name, if_so, the, the_word, name_of}
 use Rattle.sql_statements.specs.Languages.{Language, one, nothing, either, ◌>>=◌ as ◌⨾◌}
 use Rattle.sql_statements.specs.Languages as language
-use Rattle.sql_statements.specs.Parsers.{Parser, ◌>>=◌, pure, token, begins, choose, separated}
+use Rattle.sql_statements.specs.Parsers.{begins, separated}
 use Rattle.sql_statements.specs.Grammar as grammar
-use Rattle.sql_statements.specs.Descent as descent
-use Rattle.sql_statements.specs.Descent.{in_parens, maybe, comment, origin_of, names, ignoring, sequence_of, columns_of, scd, track, violation, alias, except, expectation, column, item_of, item_list, items, out_of, outs, exprs, groups, filter_of, select, truncation, truncation_part, first_condition, conditions, cdc}
-use Rattle.sql_statements.proofs.Good.{Over, Any, Proper, Good, good_bind, good_pure, good_as, good_token, good_choose, good_choose_by}
+use Rattle.sql_statements.specs.Descent.{in_parens, maybe, comment, origin_of, violation, alias, except, expectation, column, item_of, item_list, items, out_of, outs, exprs, groups, filter_of, select}
+use Rattle.sql_statements.proofs.Good.{Any, Proper, Good, good_bind, good_pure, good_choose, good_choose_by}
 use Rattle.sql_statements.proofs.Lists.{After, good_separated}
 use Rattle.sql_statements.proofs.Window.{Ends, good_expr}
-use Rattle.sql_statements.proofs.Firsts.{if_so_true, the_kind, bare_kind, opens_kind, opens_word, starts_kind, starts_word, not_kind, no_word, word_kind, other_word, opens_other, opens_not, nothing_then, maybe_start, word_ends}
-use Rattle.sql_statements.proofs.Parts.{good_the, good_word, good_value, good_map, good_less, good_maybe, good_in_parens, good_name_then, good_names_in_parens, Not, NoWord, good_comment, good_violation, good_origin, good_sequence, good_except, NoAlias, good_alias, good_ignoring, NoColumns, good_columns, good_scd, NoTrack, good_track, name_not_kind, name_kind}
+use Rattle.sql_statements.proofs.Firsts.{opens_kind, opens_word, starts_kind, not_kind, no_word, nothing_then}
+use Rattle.sql_statements.proofs.Parts.{good_the, good_word, good_value, good_map, good_less, good_maybe, good_in_parens, good_name_then, Not, NoWord, good_comment, good_violation, good_origin, good_except, NoAlias, good_alias, name_not_kind}
 
 -- ---- what follows an option
 

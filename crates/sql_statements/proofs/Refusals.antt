@@ -1,5 +1,5 @@
 -- Tokens are read in one way or refused for one reason, which is the one that the reader gives.
-use Rattle.std.proofs.Common.{◌≡◌, ◌≢◌, ℕ, suc, ◌+◌, ◌-◌, ◌≤◌, ◌<◌, List, [], ◌∷◌, ◌++◌, length, take, drop, take-append-drop, Result, Ok, Err, refl, sym, ap, ◌∙◌, subst, append_assoc, append-nil, arith, length-append, le_refl, ◌⊎◌, inl, inr, ⊎_elim}
+use Rattle.std.proofs.Common.{◌≡◌, ℕ, suc, ◌+◌, ◌-◌, ◌≤◌, ◌<◌, List, [], ◌∷◌, ◌++◌, length, take, drop, take-append-drop, Result, Ok, Err, refl, sym, ap, ◌∙◌, subst, append_assoc, arith, ◌⊎◌, inl, inr, ⊎_elim}
 use Rattle.std.specs.Prelude.{IfErr}
 use Rattle.std.proofs.lemmas.Bool.{cases_lt, cases_order}
 use Rattle.std.proofs.lemmas.List.{take-take, length-take-le, length-drop}
@@ -13,9 +13,10 @@ use Rattle.sql_statements.specs.declared.error.Refusal.{Refusal}
 use Rattle.sql_statements.specs.declared.error.Refusal.TheVariants.{Memory, Unexpected, TooLong}
 use Rattle.sql_statements.specs.Grammar.{pipeline}
 use Rattle.sql_statements.specs.Descent.{pipeline as pipeline_reader}
-use Rattle.sql_statements.specs.Limits.{IsMarked, mark, AreTokens, IsFull, Cut, Begun, limited}
+use Rattle.sql_statements.specs.Limits.{IsMarked, mark, AreTokens, limited}
 use Rattle.sql_statements.specs.Pipelines.{IsPipeline, IsShortPipeline, BeginsPipeline, IsTooLong, IsUnexpected, IsRefused, ended, whole, IsAnswer}
 use Rattle.sql_statements.proofs.Marks.{tokens_before}
+use Rattle.sql_statements.proofs.Good.{Begun}
 use Rattle.sql_statements.proofs.Window.{limited_completes, limited_long}
 use Rattle.sql_statements.proofs.Pipelines.{good_pipeline}
 use Rattle.sql_statements.proofs.Answers.{wide, IsStopped, IsTrueOf, whole_true, whole_takes}

@@ -1,9 +1,9 @@
 -- Outermost expressions within the limit: a window of one more than the most tokens tells all.
-use Rattle.std.proofs.Common.{◌≡◌, ◌≢◌, ℕ, zero, suc, ◌+◌, ◌-◌, ◌≤◌, ◌<◌, le_refl, le_trans, Bool, true, false, cond, if◌then◌else◌, List, [], ◌∷◌, ◌++◌, length, take, drop, take-append-drop, Result, Ok, Err, refl, sym, ap, ◌∙◌, subst, append_assoc, append-nil, arith, length-append, ◌⊎◌, inl, inr}
+use Rattle.std.proofs.Common.{◌≡◌, ℕ, zero, suc, ◌+◌, ◌-◌, ◌≤◌, ◌<◌, le_refl, Bool, true, false, cond, List, [], ◌∷◌, ◌++◌, length, take, drop, take-append-drop, Ok, Err, refl, sym, ap, ◌∙◌, subst, append_assoc, append-nil, arith, length-append, inl, inr}
 use Rattle.std.specs.Prelude.{nat_le, pos}
-use Rattle.std.proofs.lemmas.Bool.{le-leb, leb-true, leb-false, lt-leb}
+use Rattle.std.proofs.lemmas.Bool.{le-leb, leb-true, leb-false}
 use Rattle.std.proofs.lemmas.List.{length-take-le, length-drop}
-use Rattle.std.proofs.Math.Seq.{take-append_seam, take-append-add, drop-append_seam}
+use Rattle.std.proofs.Math.Seq.{take-append-add, drop-append_seam}
 use Rattle.sql_tree.specs.declared.expr.SqlExpr.{SqlExpr}
 use Rattle.sql_tree.specs.declared.expr.SqlExpr.TheVariants as tree
 use Rattle.sql_tree.specs.declared.lexeme.Lexeme.{Lexeme}
@@ -18,11 +18,9 @@ use Rattle.sql_expr.specs.Grammar.{Reads, number, IsExpr, BeginsExpr, max_tokens
 use Rattle.sql_expr.specs.Descent.{expr}
 use Rattle.sql_expr.proofs.Reading.{goes, settles, nonempty, no_star}
 use Rattle.sql_expr.proofs.Meeting.{meets_expr, lower}
-use Rattle.sql_statements.specs.declared.error.ParseError.{ParseError}
-use Rattle.sql_statements.specs.declared.error.ParseError.TheVariants.{Memory, Unexpected, TooLong}
-use Rattle.sql_statements.specs.Languages.{Language}
-use Rattle.sql_statements.specs.Parsers.{Outcome, Parser}
-use Rattle.sql_statements.specs.Limits.{IsShort, IsMarked, mark, AreTokens, lifted, past_limit, unlimited, limited, IsOpen, IsFull}
+use Rattle.sql_statements.specs.declared.error.ParseError.TheVariants.{Unexpected, TooLong}
+use Rattle.sql_statements.specs.Parsers.{Outcome}
+use Rattle.sql_statements.specs.Limits.{IsShort, mark, AreTokens, lifted, past_limit, unlimited, limited}
 use Rattle.sql_statements.proofs.Marks.{no_mark, only_mark, front_more, expr_tokens}
 use Rattle.sql_statements.proofs.Good.{Meets, Agrees, Completes, Plain, Fills, Reaches, Good}
 

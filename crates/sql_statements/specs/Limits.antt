@@ -1,5 +1,5 @@
 -- The most tokens of an outermost expression.
-use Rattle.std.specs.Prelude.{◌≡◌, ◌≢◌, ℕ, suc, ◌≤◌, ◌+◌, ◌-◌, ◌⊎◌, nat_le, if◌then◌else◌, List, [], ◌∷◌, ◌++◌, length, take, drop, Result, Ok, Err}
+use Rattle.std.specs.Prelude.{◌≡◌, ◌≢◌, suc, ◌≤◌, ◌+◌, ◌-◌, ◌⊎◌, nat_le, if◌then◌else◌, List, [], ◌∷◌, ◌++◌, length, take, drop, Ok, Err}
 use Rattle.sql_tree.specs.declared.expr.SqlExpr.{SqlExpr}
 use Rattle.sql_tree.specs.declared.lexeme.LexemeKind.TheVariants as k
 use Rattle.sql_tree.specs.declared.lexeme.Lexeme.{Lexeme}
@@ -51,10 +51,6 @@ limited = λ i. if nat_le (length i) max_tokens then lifted (expr (length i) 1 i
 
 -- ---- beginnings
 
--- a beginning of an expression that has not more than the most tokens
-abbrev pub IsOpen : List Lexeme → Type 0
-IsOpen v = BeginsExpr v × (length v ≤ max_tokens)
-
 -- the most tokens of an expression, which goes on with the first of these
 abbrev pub IsFull : List Lexeme → List Lexeme → Type 0
 IsFull r v = (length v ≡ max_tokens) × ((t : Lexeme) × (more : List Lexeme) × (r ≡ t ∷ more) × BeginsExpr (v ++ t ∷ []))
@@ -62,7 +58,3 @@ IsFull r v = (length v ≡ max_tokens) × ((t : Lexeme) × (more : List Lexeme) 
 -- tokens behind which an outermost expression may stand, and then tokens that are so
 abbrev pub Cut : {A : Type 0} → (Language SqlExpr → Language A) → (List Lexeme → Type 0) → List Lexeme → Type 0
 Cut {A} L Q w = (u : List Lexeme) × (v : List Lexeme) × (more : List Lexeme) × (x : A) × (w ≡ u ++ v) × Q v × L IsMarked (u ++ mark ∷ more) x
-
--- a beginning whose outermost expressions are within the limit so far
-abbrev pub Begun : {A : Type 0} → (Language SqlExpr → Language A) → List Lexeme → Type 0
-Begun {A} L w = ((more : List Lexeme) × (x : A) × L IsShort (w ++ more) x) ⊎ Cut L IsOpen w

@@ -1,6 +1,6 @@
-use Rattle.std.proofs.Common.{◌≡◌, ap, ◌∙◌}
+use Rattle.std.proofs.Common.{ap, ◌∙◌}
 use Rattle.pipeline_sql.specs.Read.{lexemes_of, placed}
-use Rattle.pipeline_sql.proofs.Told.{IsFound, IsTold, IsParsed, told_tokens}
+use Rattle.pipeline_sql.proofs.Told.{told_tokens}
 use Rattle.pipeline_sql.proofs.OneAnswer.{answer_read, answer_refused}
 use Rattle.pipeline_sql.proofs.reader.read.Goals as goal
 

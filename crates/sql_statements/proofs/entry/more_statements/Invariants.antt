@@ -1,4 +1,4 @@
-use Rattle.std.proofs.Common.{◌≡◌, ◌-◌, [], length}
+use Rattle.std.proofs.Common.{◌≡◌, ◌-◌, length}
 use Rattle.sql_statements.specs.Descent.{statements_from}
 use Rattle.sql_statements.specs.Limits.{limited}
 use Rattle.sql_statements.proofs.entry.more_statements.Given as goal
