@@ -108,7 +108,7 @@ fn pipelines_are_printed_again(rt: HostRuntime) -> Result<(), Fail> {
 #[test]
 fn statements_are_refused_at_a_token(rt: HostRuntime) -> Result<(), Fail> {
     let alloc = rt.alloc();
-    let cases: [(&str, u32); 19] = [
+    let cases: [(&str, u32); 27] = [
         (";", 0),
         ("SELECT 1", 0),
         ("CREATE", 6),
@@ -143,12 +143,120 @@ fn statements_are_refused_at_a_token(rt: HostRuntime) -> Result<(), Fail> {
             47,
         ),
         ("CREATE MATERIALIZED VIEW v AS SELECT * EXCEPT a FROM t", 46),
+        ("CREATE OR STREAMING TABLE t", 10),
+        ("CREATE STREAMING TABLE t COMMENT AS SELECT a FROM s", 33),
+        ("CREATE FLOW f AS INSERT INTO t SELECT a FROM s", 31),
+        (
+            "APPLY CHANGES INTO t FROM s KEYS (a) IGNORE UPDATES SEQUENCE BY b",
+            44,
+        ),
+        (
+            "APPLY CHANGES INTO t FROM s KEYS (a) APPLY AS INSERT WHEN a SEQUENCE BY b",
+            46,
+        ),
+        (
+            "APPLY CHANGES INTO t FROM s KEYS (a) SEQUENCE BY STRUCT b",
+            56,
+        ),
+        (
+            "CREATE MATERIALIZED VIEW v AS SELECT a FROM STREAM read_files('in', 'json')",
+            68,
+        ),
+        ("CREATE MATERIALIZED VIEW v AS SELECT a FROM t GROUP a", 52),
     ];
     for (text, at) in cases {
         assert!(rt;
             refusal(alloc, text.as_bytes()) == Some(SqlRefusal::Unexpected { at }),
             "{text}"
         );
+    }
+    Ok(())
+}
+
+/// Why a view with this condition is refused.
+fn refusal_of(alloc: Global, condition: &str) -> Result<Option<SqlRefusal>, AllocError> {
+    let mut text = String::from_str(
+        alloc,
+        "CREATE MATERIALIZED VIEW v AS SELECT a FROM t WHERE ",
+    )?;
+    text.push_str(condition)?;
+    Ok(refusal(alloc, text.as_bytes()))
+}
+
+#[test]
+fn each_form_of_an_expression_is_read_or_refused(rt: HostRuntime) -> Result<(), Fail> {
+    let alloc = rt.alloc();
+    let cases: [(&str, Option<u32>); 47] = [
+        ("a OR b AND c", None),
+        ("a OR", Some(56)),
+        ("a AND b", None),
+        ("AND a", Some(52)),
+        ("NOT NOT a", None),
+        ("NOT", Some(55)),
+        ("a = b", None),
+        ("a <> 1 OR a != 2 OR a == 3", None),
+        ("a < = b", Some(56)),
+        ("(a < b) = (a >= b)", None),
+        ("a IS NULL", None),
+        ("a IS NOT NULL", None),
+        ("a IS b", Some(57)),
+        ("a IN (1)", None),
+        ("a NOT IN (1, b)", None),
+        ("a NOT b", Some(58)),
+        ("a BETWEEN 1 AND 2 AND b", None),
+        ("a NOT BETWEEN 1 AND 2", None),
+        ("a BETWEEN 1 OR 2", Some(64)),
+        ("a + b - c || d", None),
+        ("a +", Some(55)),
+        ("a * b DIV c % d", None),
+        ("a * * b", Some(56)),
+        ("- + -1", None),
+        ("-", Some(53)),
+        ("-9223372036854775808", None),
+        ("7", None),
+        ("'x'", None),
+        ("TRUE", None),
+        ("NULL", None),
+        ("`a b`", None),
+        ("DELETE", None),
+        ("ELSE", Some(52)),
+        ("(a)", None),
+        ("(a", Some(54)),
+        ("CASE WHEN a THEN 1 WHEN b THEN 2 ELSE 3 END", None),
+        ("CASE WHEN a END", Some(64)),
+        ("CAST(a AS LONG)", None),
+        ("TRY_CAST(a AS STRING)", None),
+        ("CAST(a AS)", Some(61)),
+        ("coalesce(a, 1)", None),
+        ("coalesce()", Some(61)),
+        ("coalesce = count", None),
+        ("count(*) = count(a)", None),
+        ("count(*, a)", Some(59)),
+        ("sum(a) + min(a) + max(a)", None),
+        ("sum(*)", Some(56)),
+    ];
+    for (condition, at) in cases {
+        let wanted = at.map(|at| SqlRefusal::Unexpected { at });
+        assert!(rt; refusal_of(alloc, condition)? == wanted, "{condition}");
+    }
+    Ok(())
+}
+
+#[test]
+fn each_form_of_a_statement_is_read(rt: HostRuntime) -> Result<(), Fail> {
+    let alloc = rt.alloc();
+    let texts = [
+        "CREATE STREAMING TABLE t;",
+        "CREATE STREAMING TABLE t (a BOOLEAN, b INT, c INTEGER, d BIGINT, e LONG, f STRING)",
+        "CREATE OR REFRESH STREAMING TABLE t (a INT COMMENT 'x', CONSTRAINT c EXPECT (a > 0) ON VIOLATION FAIL UPDATE) COMMENT 'y' AS SELECT a b, a AS c FROM STREAM s",
+        "CREATE OR REFRESH MATERIALIZED VIEW v COMMENT 'x' AS SELECT * EXCEPT (a, b) FROM t GROUP BY a, b + 1",
+        "CREATE MATERIALIZED VIEW v AS SELECT a FROM read_files",
+        "CREATE FLOW f AS INSERT INTO t BY NAME SELECT a FROM read_files('in', header => FALSE)",
+        "CREATE FLOW f AS APPLY CHANGES INTO t FROM STREAM (s) KEYS (a) SEQUENCE BY b",
+        "APPLY CHANGES INTO t FROM s KEYS (a, b) APPLY AS DELETE WHEN a = 1 APPLY AS TRUNCATE WHEN b SEQUENCE BY STRUCT (a, b) COLUMNS (a, b) STORED AS SCD TYPE 2 TRACK HISTORY ON a, b",
+    ];
+    for text in texts {
+        assert!(rt; refusal(alloc, text.as_bytes()).is_none(), "{text}");
     }
     Ok(())
 }
