@@ -293,3 +293,26 @@ fn the_513th_token_of_an_expression_is_refused(rt: HostRuntime) -> Result<(), Fa
     assert!(rt; refusal(alloc, longer.as_bytes()) == Some(SqlRefusal::ExprTooLong { at: 1332 }));
     Ok(())
 }
+
+/// The beginning of a query, and then so many parentheses.
+fn with_parentheses(alloc: Global, count: usize) -> Result<String, AllocError> {
+    let mut text = String::from_str(alloc, "CREATE STREAMING TABLE t AS SELECT ")?;
+    for _ in 0..count {
+        text.push('(')?;
+    }
+    Ok(text)
+}
+
+fn spaces(alloc: Global, count: usize) -> Result<Vec<u8>, AllocError> {
+    vec![in alloc; b' '; count]
+}
+
+#[test]
+fn a_text_that_is_too_long_is_refused_for_that(rt: HostRuntime) -> Result<(), Fail> {
+    let alloc = rt.alloc();
+    let nested = with_parentheses(alloc, 600)?;
+    assert!(rt; refusal(alloc, nested.as_bytes()) == Some(SqlRefusal::ExprTooLong { at: 547 }));
+    let blank = spaces(alloc, 1_048_577)?;
+    assert!(rt; refusal(alloc, &blank) == Some(SqlRefusal::TextTooLong));
+    Ok(())
+}
