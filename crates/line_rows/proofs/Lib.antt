@@ -1,0 +1,4 @@
+pub mod CsvLemmas
+pub mod JsonLemmas
+pub mod ReadingLemmas
+pub mod TextLemmas
