@@ -1,5 +1,5 @@
 -- The row of a line.
-use Rattle.std.specs.Prelude.{List, [], ◌∷◌, ◌++◌, ℕ, ◌-◌, ◌==◌, codes, length, take, Bool, not, ◌&&◌, if◌then◌else◌, Option}
+use Rattle.std.specs.Prelude.{List, [], ◌∷◌, ◌++◌, ℕ, ◌-◌, ◌==◌, codes, length, map, take, Bool, true, false, not, ◌&&◌, ◌||◌, if◌then◌else◌, Option}
 use Rattle.std.specs.Str.{is_utf8}
 use Rattle.hex.specs.Hex.{encode_lower}
 use Rattle.value_core.specs.Order.{Row}
@@ -7,6 +7,8 @@ use Rattle.value_core.specs.declared.cursor.Format.{Format}
 use Rattle.value_core.specs.declared.cursor.Format.TheVariants.{Json, Csv}
 use Rattle.value_core.specs.declared.schema.Column.{Column}
 use Rattle.value_core.specs.declared.shape.Shape.{Shape}
+use Rattle.value_core.specs.declared.value.Kind.{Kind}
+use Rattle.value_core.specs.declared.value.Kind.TheVariants as kind
 use Rattle.value_core.specs.declared.value.Value.{Value}
 use Rattle.value_core.specs.declared.value.Value.TheVariants.{Null, Str}
 use Rattle.line_rows.specs.Csv.{csv_reading}
@@ -38,3 +40,22 @@ abbrev pub row_of : Shape → Option (List ℕ) → List ℕ → Row
 row_of shape head line =
     let reading = reading_of_line shape head line shape.format in
     if has_rescued shape then reading.values ++ rescued_value line reading.is_rescued ∷ [] else reading.values
+
+-- ---- rows and kinds
+
+abbrev pub kinds_of : List Column → List Kind
+kinds_of columns = map (λ column. column.kind) columns
+
+abbrev pub is_text_kind : Kind → Bool
+is_text_kind kind.Str = true
+is_text_kind _ = false
+
+-- the last column, if there is one, is a STRING
+abbrev pub ends_in_text : List Column → Bool
+ends_in_text [] = true
+ends_in_text (column ∷ []) = is_text_kind column.kind
+ends_in_text (column ∷ next ∷ more) = ends_in_text (next ∷ more)
+
+-- the rescued column, if there is one, is a STRING
+abbrev pub keeps_text : Shape → Bool
+keeps_text shape = not (has_rescued shape) || ends_in_text shape.columns

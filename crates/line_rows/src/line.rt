@@ -1,5 +1,6 @@
-ghost use Rattle.std.specs.Prelude.{◌≡◌, ◌++◌, IfOk, OnOk};
+ghost use Rattle.std.specs.Prelude.{◌≡◌, ◌++◌, IfOk, IsTrue};
 ghost use Rattle.std.specs.Option.{option_copied};
+ghost use Rattle.value_core.specs.Fits.{row_fits};
 ghost use Rattle.line_rows.specs.Lines as spec;
 
 use crate::csv_line::csv_reading;
@@ -71,14 +72,16 @@ fn reading_of(
 /// find their fields by its names, and by their places without it. It means nothing for JSON.
 ///
 /// What a column refuses is NULL. A line with something that no column took is rescued: its text then stands in the last
-/// column, where the shape has a rescued column, which is NULL in every other row.
+/// column, where the shape has a rescued column, which is NULL in every other row. So a row has one value a column, each
+/// NULL or of its kind, where a rescued column is a STRING.
 pub fn row_of(
     alloc: Global,
     shape: &Shape,
     head: Option<&[u8]>,
     line: &[u8],
 ) -> Result<Row, AllocError>
-    ensures { IfOk result (λ row. row ≡ spec.row_of shape.now (option_copied head.entry) line.now) }
+    ensures row { IfOk result (λ row. row ≡ spec.row_of shape.now (option_copied head.entry) line.now) }
+    ensures fits { IfOk result (λ row. IsTrue (spec.keeps_text shape.now) → IsTrue (row_fits (spec.kinds_of shape.now.columns) row)) }
 {
     let reading = reading_of(alloc, shape, head, line)?;
     let mut row = reading.values;
