@@ -1,4 +1,5 @@
 pub mod CsvLemmas
+pub mod FieldTexts
 pub mod FitLemmas
 pub mod JsonLemmas
 pub mod ReadingLemmas

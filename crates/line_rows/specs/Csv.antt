@@ -63,7 +63,7 @@ sources_of header columns = map (source_of header) (enumerate_from 0 columns)
 
 -- ---- what the columns take
 
--- what CAST gives for a text; a field that is no text is refused
+-- what CAST gives for a text; a field that is no text, as only a separator that isn't ASCII can make it, is refused
 abbrev pub text_value : Kind → List ℕ → Option Value
 text_value kind field = if is_utf8 field then cast_text kind field else None
 

@@ -3,10 +3,12 @@
 
 mod csv_line;
 mod json_line;
+mod laws;
 mod line;
 mod reading;
 mod text;
 
+pub use laws::fields_of_a_text_are_texts;
 pub use line::row_of;
 
 #[cfg(test)]
