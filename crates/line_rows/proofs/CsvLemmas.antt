@@ -1,5 +1,5 @@
 -- The fields of a record.
-use Rattle.std.proofs.Common.{◌≡◌, ℕ, zero, suc, ◌+◌, ◌<◌, List, [], ◌∷◌, drop, length, Bool, true, false, ◌||◌, Option, Some, None, refl, sym, arith}
+use Rattle.std.proofs.Common.{◌≡◌, ℕ, zero, suc, ◌+◌, ◌<◌, List, [], ◌∷◌, drop, length, Bool, true, false, ◌||◌, Option, Some, None, refl, arith}
 use Rattle.std.specs.Prelude.{bytes_eq, position, not, ◌==◌}
 use Rattle.std.specs.List.{position_from, list_any, enumerate_from}
 use Rattle.std.specs.Option.{option_map_or}

@@ -1,5 +1,5 @@
 -- Each row has one value a column, NULL or of its kind.
-use Rattle.std.proofs.Common.{◌≡◌, ℕ, zero, suc, ◌+◌, ◌-◌, List, [], ◌∷◌, ◌++◌, map, take, length, Bool, true, false, not, ◌&&◌, ◌==◌, cond, Option, Some, None, refl, sym, ap, subst, inl, inr, arith}
+use Rattle.std.proofs.Common.{◌≡◌, ℕ, zero, suc, ◌+◌, ◌-◌, List, [], ◌∷◌, ◌++◌, map, take, length, Bool, true, false, not, ◌&&◌, ◌==◌, cond, Option, Some, None, refl, ap, subst, inl, inr, arith}
 use Rattle.std.specs.Cmp.{first_so, second_so}
 use Rattle.std.proofs.lemmas.Bool.{cases_Bool}
 use Rattle.std.specs.Prelude.{unwrap_or, option_map, option_and_then}
@@ -24,7 +24,7 @@ use Rattle.line_rows.specs.declared.csv_line.Source.{Source}
 use Rattle.line_rows.specs.declared.reading.Reading.{Reading}
 use Rattle.line_rows.specs.Csv as csv
 use Rattle.line_rows.specs.Json as json
-use Rattle.line_rows.specs.Lines.{columns_of, has_rescued, rescued_text, rescued_value, reading_of_line, row_of, kinds_of, is_text_kind, ends_in_text, keeps_text}
+use Rattle.line_rows.specs.Lines.{columns_of, has_rescued, rescued_value, reading_of_line, row_of, kinds_of, is_text_kind, ends_in_text, keeps_text}
 use Rattle.line_rows.specs.Readings.{malformed}
 
 -- ---- one value
@@ -66,8 +66,8 @@ kind_fits kind.Str value = option_fits kind.Str Str (λ text. refl) (json.text_o
 json_fits : (k : Kind) (value : Data) → value_fits k (unwrap_or (json.json_value k value) Null) ≡ true
 json_fits k value = choice_fits k (json.is_null value) (Some Null) (json.kind_value k value) (null_fits k) (kind_fits k value)
 
-member_fits : (object : Data) (column : Column) → value_fits column.kind (unwrap_or (json.json_member object column) Null) ≡ true
-member_fits object column = found_fits column.kind (json.json_value column.kind) (json_fits column.kind) (get column.name object)
+member_fits : (found : Data) (column : Column) → value_fits column.kind (unwrap_or (json.json_member found column) Null) ≡ true
+member_fits found column = found_fits column.kind (json.json_value column.kind) (json_fits column.kind) (get column.name found)
 
 text_fits : (k : Kind) (field : List ℕ) → value_fits k (unwrap_or (csv.text_value k field) Null) ≡ true
 text_fits k field = choice_fits k (is_utf8 field) (cast_text k field) None (cast_fits k field) (null_fits k)
@@ -96,7 +96,7 @@ reading_fits columns reading fits (Some a) = fits a
 
 json_reading_fits : (columns : List Column) (line : List ℕ) → row_fits (kinds_of columns) (json.json_reading columns line).values ≡ true
 json_reading_fits columns line =
-    reading_fits columns (json.object_reading columns) (λ object. taken_fit (λ (column : Column). column.kind) (json.json_member object) (member_fits object) columns) (json.object_of line)
+    reading_fits columns (json.object_reading columns) (λ found. taken_fit (λ (column : Column). column.kind) (json.json_member found) (member_fits found) columns) (json.object_of line)
 
 -- a source is of its column's kind
 source_kinds : (header : Option (List (List ℕ))) (n : ℕ) (columns : List Column)

@@ -1,5 +1,5 @@
 -- What a CSV line gives (RFC 4180, as `csv` reads it).
-use Rattle.std.specs.Prelude.{List, [], ℕ, ◌==◌, length, map, position, bytes_eq, slice_index, Bool, true, false, not, ◌&&◌, ◌||◌, if◌then◌else◌, Option, Some, None, option_map, option_and_then, unwrap_or}
+use Rattle.std.specs.Prelude.{List, [], ℕ, ◌==◌, length, map, position, bytes_eq, slice_index, Bool, false, not, ◌&&◌, ◌||◌, if◌then◌else◌, Option, Some, None, option_map, option_and_then, unwrap_or}
 use Rattle.std.specs.List.{list_any, enumerate_from}
 use Rattle.std.specs.Option.{option_map_or}
 use Rattle.std.specs.Str.{is_utf8}

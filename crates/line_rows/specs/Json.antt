@@ -1,5 +1,5 @@
 -- What a JSON line gives (RFC 8259, as `serde_json` reads it).
-use Rattle.std.specs.Prelude.{List, ℕ, ℤ, codes, map, bytes_eq, Bool, true, false, not, ◌&&◌, ◌||◌, if◌then◌else◌, Option, Some, None, is_some, option_map, option_and_then}
+use Rattle.std.specs.Prelude.{List, ℕ, ℤ, codes, map, bytes_eq, Bool, false, not, ◌&&◌, ◌||◌, if◌then◌else◌, Option, Some, None, is_some, option_map, option_and_then}
 use Rattle.std.specs.Fmt.{signed_decimal}
 use Rattle.std.specs.List.{list_any}
 use Rattle.std.specs.Option.{option_map_or}
@@ -33,8 +33,8 @@ text_of null = None
 text_of (boolean b) = Some (if b then codes "true" else codes "false")
 text_of (number n) = option_map signed_decimal (as_i64 n)
 text_of (string text) = Some text
-text_of (array items) = None
-text_of (object members) = None
+text_of (array _) = None
+text_of (object _) = None
 
 -- what a column of a kind takes from a value other than null
 abbrev pub kind_value : Kind → Data → Option Value

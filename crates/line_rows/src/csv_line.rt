@@ -52,9 +52,9 @@ fn read_fields(alloc: Global, sep: u8, line: &[u8]) -> Result<ByteRecord, AllocE
         .flexible(true)
         .delimiter(sep)
         .from_reader(alloc, line);
-    let mut record = ByteRecord::new(alloc);
-    match reader.read_byte_record(&mut record) {
-        Ok(true) => Ok(record),
+    let mut fields = ByteRecord::new(alloc);
+    match reader.read_byte_record(&mut fields) {
+        Ok(true) => Ok(fields),
         Ok(false) => Ok(ByteRecord::new(alloc)),
         // Reading from memory fails for want of memory alone.
         Err(_) => Err(AllocError),
@@ -154,15 +154,15 @@ fn field_value(alloc: Global, kind: Kind, field: &[u8]) -> Result<Option<Value>,
 /// What a column takes from a record: NULL where its field is missing.
 fn csv_field(
     alloc: Global,
-    record: &ByteRecord,
+    fields: &ByteRecord,
     source: &Source,
 ) -> Result<Option<Value>, AllocError>
-    ensures { IfOk result (λ value. value ≡ spec.csv_field (fields_of record.now) source.now) }
+    ensures { IfOk result (λ value. value ≡ spec.csv_field (fields_of fields.now) source.now) }
 {
     let Some(place) = source.place else {
         return Ok(Some(Value::Null));
     };
-    match record.get(place) {
+    match fields.get(place) {
         Some(field) => field_value(alloc, source.kind, field),
         None => Ok(Some(Value::Null)),
     }
@@ -185,11 +185,11 @@ fn is_stray(sources: &[Source], place: usize, field: Option<&[u8]>) -> bool
 
 #[tactic(auto, using(crate::proofs::CsvLemmas::stray_more, crate::proofs::CsvLemmas::stray_found))]
 /// Whether a record has a field that isn't empty and that no column takes.
-fn has_stray_field(sources: &[Source], record: &ByteRecord) -> bool
-    ensures { result ≡ spec.has_stray_field sources.now (fields_of record.now) }
+fn has_stray_field(sources: &[Source], fields: &ByteRecord) -> bool
+    ensures { result ≡ spec.has_stray_field sources.now (fields_of fields.now) }
 {
-    for place in 0..record.len() {
-        if is_stray(sources, place, record.get(place)) {
+    for place in 0..fields.len() {
+        if is_stray(sources, place, fields.get(place)) {
             return true;
         }
     }
@@ -211,11 +211,11 @@ fn is_unfit(
     header: Option<&ByteRecord>,
     columns: &[Column],
     sources: &[Source],
-    record: &ByteRecord,
+    fields: &ByteRecord,
 ) -> bool
-    ensures { result ≡ spec.is_unfit (option_map (λ header. fields_of header.now) header.entry) columns.now sources.now (fields_of record.now) }
+    ensures { result ≡ spec.is_unfit (option_map (λ header. fields_of header.now) header.entry) columns.now sources.now (fields_of fields.now) }
 {
-    record.len() != width_of(header, columns) || has_stray_field(sources, record)
+    fields.len() != width_of(header, columns) || has_stray_field(sources, fields)
 }
 
 #[tactic(auto, using(crate::proofs::ReadingLemmas::reading_more))]
@@ -223,15 +223,15 @@ fn record_reading(
     alloc: Global,
     columns: &[Column],
     header: Option<&ByteRecord>,
-    record: &ByteRecord,
+    fields: &ByteRecord,
 ) -> Result<Reading, AllocError>
-    ensures { IfOk result (λ reading. reading ≡ spec.record_reading columns.now (option_map (λ header. fields_of header.now) header.entry) (fields_of record.now)) }
+    ensures { IfOk result (λ reading. reading ≡ spec.record_reading columns.now (option_map (λ header. fields_of header.now) header.entry) (fields_of fields.now)) }
 {
     let sources = sources_of(alloc, header, columns)?;
-    let is_unfit = is_unfit(header, columns, sources.as_slice(), record);
+    let is_unfit = is_unfit(header, columns, sources.as_slice(), fields);
     let mut reading = Reading::new(alloc, is_unfit);
     for source in sources.as_slice() {
-        reading.push(csv_field(alloc, record, source)?)?;
+        reading.push(csv_field(alloc, fields, source)?)?;
     }
     Ok(reading)
 }
@@ -247,9 +247,9 @@ pub fn csv_reading(
     ensures { IfOk result (λ reading. reading ≡ spec.csv_reading sep columns.now (option_copied head.entry) line.now) }
 {
     match fields_in(alloc, sep, line)? {
-        Some(record) => {
+        Some(fields) => {
             let header = header_of(alloc, sep, head)?;
-            record_reading(alloc, columns, header.as_ref(), &record)
+            record_reading(alloc, columns, header.as_ref(), &fields)
         }
         None => Reading::malformed(alloc, columns),
     }

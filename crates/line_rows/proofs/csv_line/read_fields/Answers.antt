@@ -1,6 +1,5 @@
-use Rattle.std.proofs.Common.{◌≡◌, ◌∙◌, Some, ap, inl, inr, sym}
+use Rattle.std.proofs.Common.{◌≡◌, ◌∙◌, Some, ap, inr}
 use Rattle.csv.specs.Reading.{Ready, reader_config, reader_trim}
-use Rattle.csv.specs.Records.{fields_of}
 use Rattle.csv.specs.declared.parser.Config.{Config}
 use Rattle.csv.specs.declared.reader.Trim.TheVariants as trim
 use Rattle.line_rows.specs.Csv.{settings}

@@ -5,4 +5,4 @@ use Rattle.line_rows.specs.Readings.{reading_of}
 use Rattle.line_rows.proofs.csv_line.record_reading.Given as goal
 
 abbrev pub invariant-loop-source : goal.invariant-loop-source
-invariant-loop-source l = l.reading ≡ reading_of (map (csv_field (fields_of l.record)) (take l.source-index l.source-items)) l.is_unfit
+invariant-loop-source l = l.reading ≡ reading_of (map (csv_field (fields_of l.fields)) (take l.source-index l.source-items)) l.is_unfit

@@ -1,6 +1,5 @@
-use Rattle.std.proofs.Common.{◌≡◌, ◌∙◌, sym, ap, rules}
+use Rattle.std.proofs.Common.{◌≡◌, rules}
 use Rattle.std.specs.Option.{option_copied}
-use Rattle.value_core.specs.Fits.{row_fits}
 use Rattle.line_rows.specs.Lines as spec
 use Rattle.line_rows.proofs.FitLemmas.{row_fits_columns}
 use Rattle.line_rows.proofs.line.row_of.Goals as goal
