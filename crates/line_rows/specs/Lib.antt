@@ -1,4 +1,5 @@
 pub mod Csv
+pub mod Hex
 pub mod Json
 pub mod Lines
 pub mod Readings

@@ -1,7 +1,6 @@
 -- The row of a line.
 use Rattle.std.specs.Prelude.{List, [], ◌∷◌, ◌++◌, ℕ, ◌-◌, ◌==◌, codes, length, map, take, Bool, true, false, not, ◌&&◌, ◌||◌, if◌then◌else◌, Option}
 use Rattle.std.specs.Str.{is_utf8}
-use Rattle.hex.specs.Hex.{encode_lower}
 use Rattle.value_core.specs.Order.{Row}
 use Rattle.value_core.specs.declared.cursor.Format.{Format}
 use Rattle.value_core.specs.declared.cursor.Format.TheVariants.{Json, Csv}
@@ -12,6 +11,7 @@ use Rattle.value_core.specs.declared.value.Kind.TheVariants as kind
 use Rattle.value_core.specs.declared.value.Value.{Value}
 use Rattle.value_core.specs.declared.value.Value.TheVariants.{Null, Str}
 use Rattle.line_rows.specs.Csv.{csv_reading}
+use Rattle.line_rows.specs.Hex.{hex_text}
 use Rattle.line_rows.specs.Json.{json_reading}
 use Rattle.line_rows.specs.declared.reading.Reading.{Reading}
 
@@ -25,7 +25,7 @@ columns_of shape = if has_rescued shape then take (length shape.columns - 1) sha
 
 -- what is kept of a rescued line: its text, and where it isn't UTF-8 `hex:` and two lower-case hexadecimal digits a byte
 abbrev pub rescued_text : List ℕ → List ℕ
-rescued_text line = if is_utf8 line then line else codes "hex:" ++ encode_lower line
+rescued_text line = if is_utf8 line then line else codes "hex:" ++ hex_text line
 
 -- the value of the rescued column
 abbrev pub rescued_value : List ℕ → Bool → Value

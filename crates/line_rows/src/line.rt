@@ -6,7 +6,7 @@ ghost use Rattle.line_rows.specs.Lines as spec;
 use crate::csv_line::csv_reading;
 use crate::json_line::json_reading;
 use crate::reading::Reading;
-use crate::text::text_in;
+use crate::text::{push_hex, text_in};
 use std::alloc::{AllocError, Global};
 use value_core::{Column, Format, Row, Shape, Text, Value};
 
@@ -36,7 +36,7 @@ fn rescued_text(alloc: Global, line: &[u8]) -> Result<Text, AllocError>
         return Text::new(alloc, text);
     }
     let mut text = String::from_str(alloc, "hex:")?;
-    text.push_str(hex::encode(alloc, line)?.as_str())?;
+    push_hex(&mut text, line)?;
     Ok(Text::from_string(text))
 }
 
