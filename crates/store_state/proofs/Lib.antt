@@ -1,0 +1,5 @@
+pub mod CursorLemmas
+pub mod FirstLemmas
+pub mod PartLemmas
+pub mod TakeLemmas
+pub mod WalkLemmas

@@ -1,0 +1,6 @@
+use Rattle.std.proofs.Common.{◌≡◌, drop}
+use Rattle.store_state.specs.Follows.{none_falls}
+use Rattle.store_state.proofs.fits_take.none_falls.Given as goal
+
+abbrev pub invariant-loop-place : goal.invariant-loop-place
+invariant-loop-place l = none_falls (drop l.place-index l.old) l.new ≡ none_falls l.old l.new
