@@ -1,5 +1,6 @@
 pub mod CursorLemmas
 pub mod FirstLemmas
 pub mod PartLemmas
+pub mod StateLemmas
 pub mod TakeLemmas
 pub mod WalkLemmas

@@ -1,6 +1,6 @@
 -- When a payload follows a state.
 use Rattle.std.specs.Prelude.{◌≡◌, ⊤, ℕ, ◌+◌, ◌<◌, ◌≤◌, ◌^◌, nat_lt, nat_le, List, [], ◌∷◌, Option, Some, None, is_none, IsSomeAnd, IfSome, Bool, true, false, ◌&&◌, length, map, take, find, bytes_eq}
-use Rattle.std.specs.List.{list_all}
+use Rattle.std.specs.List.{list_all, list_any}
 use Rattle.value_core.specs.declared.change.Tally.{Tally}
 use Rattle.value_core.specs.declared.cursor.Cursor.{Cursor}
 use Rattle.value_core.specs.declared.cursor.Cursor.TheVariants.{Files, At, Never}
@@ -53,16 +53,12 @@ pub record FitsDefine (state : State) (fresh : Bool) (list : List Definition) : 
 
 -- ---- how far a flow has read
 
-abbrev pub is_file : List ℕ → FilePlace → Bool
-is_file file place = bytes_eq place.file file
-
--- a file has its place among these, at this one or behind it
-abbrev pub has_place : FilePlace → Option FilePlace → Bool
-has_place old None = false
-has_place old (Some new) = nat_le old.place new.place
+-- a place of the same file, and not before the old one
+abbrev pub keeps_place : FilePlace → FilePlace → Bool
+keeps_place old new = bytes_eq new.file old.file && nat_le old.place new.place
 
 abbrev pub is_kept : FilePlace → List FilePlace → Bool
-is_kept old new = has_place old (find (is_file old.file) new)
+is_kept old new = list_any (keeps_place old) new
 
 -- each file is among the new places, and not before its old place
 abbrev pub none_falls : List FilePlace → List FilePlace → Bool

@@ -1,6 +1,6 @@
 // Which batches may follow.
-ghost use Rattle.std.specs.Prelude.{◌≡◌, ◌↔◌, IsTrue};
-ghost use Rattle.std.specs.Option.{option_copied};
+ghost use Rattle.std.specs.Prelude.{◌≡◌, ◌↔◌, IsTrue, IfSome, is_some};
+ghost use Rattle.store_state.specs.Places.{AreAmong};
 ghost use Rattle.store_state.specs.Follows as follows;
 ghost use Rattle.store_state.specs.Follows.{FitsTable, FlowMoves, IsReached, MovesOn, VersionMoves, FilesMove};
 ghost use Rattle.store_state.specs.Parts.{joined};
@@ -73,25 +73,54 @@ fn all_fit(columns: &[Column], rows: &[Row]) -> bool
     true
 }
 
-/// Whether a file is among these places, at its place or behind it.
-fn has_place(old: &FilePlace, places: &[FilePlace]) -> bool
-    ensures { result ≡ follows.is_kept old.now places.now }
+/// Whether a place is of the same file, and not before the old one.
+fn keeps_place(old: &FilePlace, new: &FilePlace) -> bool
+    ensures { result ≡ follows.keeps_place old.now new.now }
 {
-    for new in places {
-        if new.file.as_str() == old.file.as_str() {
-            return old.place <= new.place;
-        }
-    }
-    false
+    new.file.as_str() == old.file.as_str() && old.place <= new.place
 }
 
-/// Whether each file is among the new places, and not before its old place.
+/// What stands behind the first place that keeps the old one.
+fn behind<'a>(old: &FilePlace, places: &'a [FilePlace]) -> Option<&'a [FilePlace]>
+    ensures kept { is_some result ≡ follows.is_kept old.now places.now }
+    ensures among { IfSome result (λ rest. AreAmong rest.now places.now) }
+{
+    let mut rest = places;
+    while let Some((new, more)) = rest.split_first() {
+        if keeps_place(old, new) {
+            return Some(more);
+        }
+        rest = more;
+    }
+    None
+}
+
+/// The same, sought in what is left of the places, and where it isn't there in all of them.
+fn next_of<'a>(
+    old: &FilePlace,
+    rest: &'a [FilePlace],
+    places: &'a [FilePlace],
+) -> Option<&'a [FilePlace]>
+    requires { AreAmong rest.now places.now }
+    ensures kept { is_some result ≡ follows.is_kept old.now places.now }
+    ensures among { IfSome result (λ more. AreAmong more.now places.now) }
+{
+    match behind(old, rest) {
+        Some(more) => Some(more),
+        None => behind(old, places),
+    }
+}
+
+/// Whether each file is among the new places, and not before its old place. Places ascend, so that each
+/// is sought behind the one before it, and among all of them only where it isn't there.
 fn none_falls(old: &[FilePlace], new: &[FilePlace]) -> bool
     ensures { result ≡ follows.none_falls old.now new.now }
 {
+    let mut rest = new;
     for place in old {
-        if !has_place(place, new) {
-            return false;
+        match next_of(place, rest, new) {
+            Some(more) => rest = more,
+            None => return false,
         }
     }
     true

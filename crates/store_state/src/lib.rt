@@ -7,11 +7,13 @@ mod find;
 mod fits_define;
 mod fits_take;
 mod follows;
+mod laws;
 mod part;
 mod put;
 mod table;
 mod undo;
 
 pub use contents::Contents;
+pub use laws::payloads_come_one_by_one;
 pub use table::Table;
 pub use undo::Undo;
