@@ -25,9 +25,9 @@ seeks-next test xs i x h e fails s =
     record {
       same = sym (find-cons test x (drop (i + 1) xs) fails) ∙ ap (find test) (sym split) ∙ s.same;
       place = λ k first.
-        let here : IsFirst test (drop i xs) (suc k) = subst (λ ys. IsFirst test ys (suc k)) (sym split) (fails, first) in
-        let e : i + suc k ≡ i + 1 + k = omega arith in
-        subst (IsFirst test xs) e (s.place (suc k) here);
+          let here : IsFirst test (drop i xs) (suc k) = subst (λ ys. IsFirst test ys (suc k)) (sym split) (fails, first) in
+          let e : i + suc k ≡ i + 1 + k = omega arith in
+          subst (IsFirst test xs) e (s.place (suc k) here);
     }
 
 pub seeks-here : {X : Type 0} (test : X → Bool) (xs : List X) (i : ℕ) (x : X) → i < length xs → x ≡ get_or xs i x → test x ≡ true → Seeks test xs i → IsFirst test xs i

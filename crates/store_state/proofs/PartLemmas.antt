@@ -65,7 +65,7 @@ updated-back name f g [] d keeps found back = refl
 updated-back name f g (x ∷ state) d keeps found back =
     by_cases (is_named name x)
     (λ t. let here = rw t at found in let same : d ≡ x = cc in
-      rw (t, keeps x, t) (ap (λ a. a ∷ state) (subst (λ a. g (f a) ≡ a) same back)))
+    rw (t, keeps x, t) (ap (λ a. a ∷ state) (subst (λ a. g (f a) ≡ a) same back)))
     (λ n. let behind = rw n at found in rw (n, n) (ap (λ rest. x ∷ rest) (updated-back name f g state d keeps behind back)))
 
 -- ---- more datasets, and fewer
@@ -106,10 +106,10 @@ sides-next list parts i d p new h item so_far first pushed =
     let next : take (i + 1) list ≡ take i list ++ d ∷ [] = subst (λ x. take (i + 1) list ≡ take i list ++ x ∷ []) (sym item) (take_more list i d h) in
     let as_long : length (take i list) ≡ length parts = omega (arith, length-take i list, so_far.each) in
     let sides : side_by_side (take i list ++ d ∷ []) (parts ++ p ∷ []) ≡ map begun (take i list ++ d ∷ []) =
-      sides-more (take i list) parts d p as_long
-      ∙ ap (λ state. state ++ joined d p ∷ []) so_far.sides
-      ∙ ap (λ x. map begun (take i list) ++ x ∷ []) first
-      ∙ sym (map-append begun (take i list) (d ∷ []))
+    sides-more (take i list) parts d p as_long
+    ∙ ap (λ state. state ++ joined d p ∷ []) so_far.sides
+    ∙ ap (λ x. map begun (take i list) ++ x ∷ []) first
+    ∙ sym (map-append begun (take i list) (d ∷ []))
     in
     record {
       each = omega (arith, ap length pushed, length_push parts p, so_far.each);

@@ -14,6 +14,9 @@ mod table;
 mod undo;
 
 pub use contents::Contents;
-pub use laws::payloads_come_one_by_one;
+pub use laws::{names_stay_distinct, payloads_come_one_by_one};
 pub use table::Table;
 pub use undo::Undo;
+
+#[cfg(test)]
+mod tests;

@@ -12,7 +12,9 @@ pub enum Undo {
     /// The whole contents from before, where all datasets began anew.
     Began(Contents),
     /// How many datasets there were, where others were added.
-    Added { before: usize },
+    Added {
+        before: usize,
+    },
     /// How far the flow had read and the table's counts, where a batch was taken.
     Took {
         table: Name,

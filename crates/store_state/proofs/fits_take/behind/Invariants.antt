@@ -6,7 +6,7 @@ use Rattle.store_state.proofs.fits_take.behind.Given as goal
 abbrev pub invariant-loop-new : goal.invariant-loop-new
 invariant-loop-new l = record {
   same : is_kept l.old l.rest ≡ is_kept l.old l.places;
-  among : AreAmong l.rest l.places
+  among : AreAmong l.rest l.places;
 }
 
 abbrev pub decreases-loop-new : goal.decreases-loop-new

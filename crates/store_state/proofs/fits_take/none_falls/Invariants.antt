@@ -6,5 +6,5 @@ use Rattle.store_state.proofs.fits_take.none_falls.Given as goal
 abbrev pub invariant-loop-place : goal.invariant-loop-place
 invariant-loop-place l = record {
   same : none_falls (drop l.place-index l.old) l.new ≡ none_falls l.old l.new;
-  among : AreAmong l.rest l.new
+  among : AreAmong l.rest l.new;
 }

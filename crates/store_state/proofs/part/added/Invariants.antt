@@ -6,5 +6,5 @@ use Rattle.store_state.proofs.part.added.Given as goal
 abbrev pub invariant-loop-kept : goal.invariant-loop-kept
 invariant-loop-kept l = record {
   fits : counts_fit (drop l.kept-index l.counts) l.rest ≡ true;
-  sums_are : l.sums ++ added (drop l.kept-index l.counts) l.rest ≡ added l.counts l.more
+  sums_are : l.sums ++ added (drop l.kept-index l.counts) l.rest ≡ added l.counts l.more;
 }

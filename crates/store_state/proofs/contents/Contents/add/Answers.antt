@@ -43,6 +43,6 @@ returns-clause-ok c = result-is c
 pub returns-clause-back : goal.returns-clause-back
 returns-clause-back c =
     let long : length c.args.self.now ≡ c.len-before.result =
-      omega (arith, ap length c.self.view_is, length-sides c.self.inside.definitions c.self.inside.parts.items c.self.invariant, c.self.inside.parts.ok.0, c.len-before.ensures)
+    omega (arith, ap length c.self.view_is, length-sides c.self.inside.definitions c.self.inside.parts.items c.self.invariant, c.self.inside.parts.ok.0, c.len-before.ensures)
     in
     ap (take c.len-before.result) (result-is c) ∙ take_at c.args.self.now (map begun (drop (length c.args.self.now) c.args.list)) c.len-before.result long

@@ -6,6 +6,6 @@ use Rattle.store_state.proofs.contents.Contents.cut.Goals as goal
 pub returns : goal.returns
 returns c =
     let list : c.from_vec.result ≡ take c.args.before c.self.inside.definitions =
-      c.from_vec.ensures ∙ c.truncate.ensures.items ∙ ap (take c.args.before) (c.into_vec-items.ensures ∙ c.replace-list.ensures.value)
+    c.from_vec.ensures ∙ c.truncate.ensures.items ∙ ap (take c.args.before) (c.into_vec-items.ensures ∙ c.replace-list.ensures.value)
     in
     rw (list, c.truncate-2.ensures.items) (take-sides c.args.before c.self.inside.definitions c.self.inside.parts.items ∙ ap (take c.args.before) c.self.view_is)

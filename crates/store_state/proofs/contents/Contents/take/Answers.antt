@@ -53,8 +53,8 @@ returns-clause-back c =
     let first : IsFirst (is_defined name) list c.in-Some.place = subst (λ xs. IsFirst (is_defined name) xs c.in-Some.place) c.as_slice.ensures c.in-Some.ensures.first in
     let below : c.in-Some.place < length c.self.inside.parts.items = omega (arith, c.self.invariant, ap length c.as_slice.ensures, c.in-Some.ensures.within) in
     let is : dataset_of c.args.self.now name ≡ Some (joined c.index-as_slice-place.result c.index_mut.result.now) =
-      rw (← c.self.view_is)
-      (found-at name list c.self.inside.parts.items c.in-Some.place c.index-as_slice-place.result c.index_mut.result.now first below (rw (← c.as_slice-2.ensures) c.index-as_slice-place.is) c.index_mut.ensures.value)
+    rw (← c.self.view_is)
+    (found-at name list c.self.inside.parts.items c.in-Some.place c.index-as_slice-place.result c.index_mut.result.now first below (rw (← c.as_slice-2.ensures) c.index-as_slice-place.is) c.index_mut.ensures.value)
     in
     ap (λ state. undone state c.in_ok-undo.undo) (result-is c)
     ∙ gives-back c.args.self.now c.args.batch (joined c.index-as_slice-place.result c.index_mut.result.now) c.in_ok-undo.undo is c.in_ok-undo.ensures.back
