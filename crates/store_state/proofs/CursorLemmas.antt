@@ -1,5 +1,5 @@
 -- Cursors beside their flows.
-use Rattle.std.proofs.Common.{◌≡◌, ℕ, zero, suc, ◌<◌, ◌≤◌, Bool, true, false, List, [], ◌∷◌, length, get_or, set, Option, Some, None, refl, sym, ap, arith}
+use Rattle.std.proofs.Common.{◌≡◌, ℕ, zero, suc, ◌<◌, ◌≤◌, List, [], ◌∷◌, length, get_or, set, Some, None, refl, ap, arith}
 use Rattle.std.specs.Prelude.{find}
 use Rattle.value_core.specs.declared.cursor.Cursor.{Cursor}
 use Rattle.commit_records.specs.declared.definition.StoredFlow.{StoredFlow}

@@ -1,5 +1,5 @@
 -- A batch that is taken, and taken back.
-use Rattle.std.proofs.Common.{◌≡◌, ℕ, ◌-◌, ◌+◌, Bool, true, false, List, [], ◌∷◌, ◌++◌, length, take, Option, Some, None, refl, sym, ap, ◌∙◌, subst, arith}
+use Rattle.std.proofs.Common.{◌≡◌, ◌-◌, List, [], ◌∷◌, ◌++◌, length, take, Option, Some, None, refl, arith}
 use Rattle.std.specs.Prelude.{IsSome}
 use Rattle.std.proofs.lemmas.List.{take_at, length_push}
 use Rattle.value_core.specs.declared.change.Change.{Change}
@@ -8,7 +8,7 @@ use Rattle.commit_records.specs.declared.definition.StoredFlow.{StoredFlow}
 use Rattle.commit_records.specs.declared.take.Take.{Take}
 use Rattle.store_state.specs.declared.undo.Undo.{Undo}
 use Rattle.store_state.specs.declared.undo.Undo.TheVariants.{Began, Added, Took}
-use Rattle.store_state.specs.Dataset.{Dataset, State, cursor_of, dataset_of, is_named, moved, taken, updated}
+use Rattle.store_state.specs.Dataset.{Dataset, State, cursor_of, dataset_of, taken, updated}
 use Rattle.store_state.specs.Follows.{FlowMoves}
 use Rattle.store_state.specs.Undo.{GivesBack, undone, untaken}
 use Rattle.store_state.proofs.CursorLemmas.{moved-back}

@@ -1,6 +1,6 @@
 -- What the last step of a walk along lists shows.
-use Rattle.std.proofs.Common.{◌≡◌, ℕ, zero, suc, ◌<◌, Bool, true, false, List, [], ◌∷◌, length, drop, refl, arith, length-drop}
-use Rattle.std.specs.Prelude.{find, is_none, ◌&&◌}
+use Rattle.std.proofs.Common.{◌≡◌, ℕ, zero, suc, ◌<◌, Bool, false, List, [], ◌∷◌, length, drop, refl, arith, length-drop}
+use Rattle.std.specs.Prelude.{find, is_none}
 use Rattle.value_core.specs.declared.change.Tally.{Tally}
 use Rattle.commit_records.specs.declared.definition.Definition.{Definition}
 use Rattle.store_state.specs.Dataset.{is_defined}

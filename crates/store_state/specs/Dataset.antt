@@ -1,5 +1,5 @@
 -- What a store knows of its datasets, and what each payload makes of it.
-use Rattle.std.specs.Prelude.{◌≡◌, ℕ, ◌+◌, List, [], ◌∷◌, ◌++◌, Option, Some, None, Bool, true, false, if◌then◌else◌, length, map, drop, find}
+use Rattle.std.specs.Prelude.{ℕ, ◌+◌, List, [], ◌∷◌, ◌++◌, Option, Some, None, Bool, true, false, if◌then◌else◌, length, map, drop, find}
 use Rattle.value_core.specs.declared.change.Change.{Change}
 use Rattle.value_core.specs.declared.change.Tally.{Tally}
 use Rattle.value_core.specs.declared.cursor.Cursor.{Cursor}

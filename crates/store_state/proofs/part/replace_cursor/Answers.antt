@@ -1,5 +1,4 @@
-use Rattle.std.proofs.Common.{◌≡◌, ◌<◌, ◌≤◌, length, get_or, set, sym, ap, ◌∙◌, arith}
-use Rattle.store_state.specs.Dataset.{moved}
+use Rattle.std.proofs.Common.{◌<◌, ◌≤◌, length, arith}
 use Rattle.store_state.proofs.CursorLemmas.{moved-none, cursor-none, moved-past, cursor-past, moved-at, cursor-at}
 use Rattle.store_state.proofs.part.replace_cursor.Goals as goal
 

@@ -1,6 +1,5 @@
-use Rattle.std.proofs.Common.{◌≡◌, ◌≤◌, ◌++◌, ◌∷◌, List, length, map, take, drop, subst, sym, ap, ◌∙◌, arith}
+use Rattle.std.proofs.Common.{◌≡◌, ◌≤◌, ◌++◌, length, map, take, drop, subst, sym, ap, ◌∙◌, arith}
 use Rattle.std.proofs.lemmas.List.{length-append, length-drop, take_at}
-use Rattle.commit_records.specs.declared.definition.Definition.{Definition}
 use Rattle.store_state.specs.Dataset.{begun}
 use Rattle.store_state.specs.Parts.{side_by_side}
 use Rattle.store_state.proofs.PartLemmas.{prefix-kept, prefix-short, length-sides, sides-added}

@@ -1,5 +1,4 @@
 use Rattle.std.proofs.Common.{◌≡◌, take, ap, ◌∙◌}
-use Rattle.store_state.specs.Parts.{side_by_side}
 use Rattle.store_state.proofs.PartLemmas.{take-sides}
 use Rattle.store_state.proofs.contents.Contents.cut.Goals as goal
 

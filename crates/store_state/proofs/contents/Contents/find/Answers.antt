@@ -1,8 +1,7 @@
-use Rattle.std.proofs.Common.{◌≡◌, ◌<◌, length, sym, ap, ◌∙◌, subst, arith, get_or, Some, None}
+use Rattle.std.proofs.Common.{◌≡◌, ◌<◌, length, ap, subst, arith, None}
 use Rattle.std.specs.Prelude.{find}
-use Rattle.store_state.specs.Dataset.{dataset_of, is_defined}
+use Rattle.store_state.specs.Dataset.{is_defined}
 use Rattle.store_state.specs.Places.{IsFirst}
-use Rattle.store_state.specs.Parts.{joined}
 use Rattle.store_state.proofs.PartLemmas.{none-found, found-at}
 use Rattle.store_state.proofs.contents.Contents.find.Goals as goal
 

@@ -1,5 +1,5 @@
-use Rattle.std.proofs.Common.{◌≡◌, ◌<◌, Some, None, length, set, subst, sym, ap, ◌∙◌, arith}
-use Rattle.std.specs.Prelude.{find, IsSomeAnd, IsSome}
+use Rattle.std.proofs.Common.{◌≡◌, ◌<◌, Some, None, length, set, subst, ap, ◌∙◌, arith}
+use Rattle.std.specs.Prelude.{find, IsSomeAnd}
 use Rattle.store_state.specs.Dataset.{dataset_of, is_defined, taken, updated}
 use Rattle.store_state.specs.Follows.{FitsTake}
 use Rattle.store_state.specs.Parts.{joined, side_by_side}

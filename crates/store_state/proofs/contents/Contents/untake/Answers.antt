@@ -1,6 +1,6 @@
-use Rattle.std.proofs.Common.{◌≡◌, ◌<◌, None, length, get_or, subst, sym, ap, ◌∙◌, arith}
+use Rattle.std.proofs.Common.{◌≡◌, ◌<◌, None, length, subst, ap, arith}
 use Rattle.std.specs.Prelude.{find}
-use Rattle.store_state.specs.Dataset.{is_defined, updated}
+use Rattle.store_state.specs.Dataset.{is_defined}
 use Rattle.store_state.specs.Undo.{untaken}
 use Rattle.store_state.specs.Places.{IsFirst}
 use Rattle.store_state.proofs.PartLemmas.{updated-none, updated-at}
