@@ -1,0 +1,71 @@
+use Rattle.std.proofs.Common.{Ok, Err, refl}
+use Rattle.store_core.specs.declared.commit.CommitEnd.TheVariants.{Failed}
+use Rattle.store_core.proofs.CommitLemmas.{none_of, commits, by_gate, acknowledged, as_left, ours}
+use Rattle.store_core.proofs.store.Store.commit.Goals as goal
+
+pub returns-in-Ok-clause-at_rest : goal.returns-in-Ok-clause-at_rest
+returns-in-Ok-clause-at_rest g c = λ told honest none.
+    let old = g.D.Disk.state c.args.disk.now in
+    let new = g.D.Disk.state c.append.new.disk in
+    let left = c.requires.at_rest told none in
+    let prepared = c.in_ok-framed.ensures.ok in
+    let appends = c.in-Ok.ensures.appends told honest left.bodies left.at_rest in
+    as_left c.args.self.now.log left.bodies c.args.self.now.contents c.args.payload _ old left.side left.leads prepared.follows prepared.record_is left.at_rest
+    _ new appends.acknowledged c.append.ensures.same_log.0 prepared.taken
+
+pub returns-in-Ok-clause-commits : goal.returns-in-Ok-clause-commits
+returns-in-Ok-clause-commits g c = λ told honest none.
+    let old = g.D.Disk.state c.args.disk.now in
+    let new = g.D.Disk.state c.append.new.disk in
+    let left = c.requires.at_rest told none in
+    let prepared = c.in_ok-framed.ensures.ok in
+    let appends = c.in-Ok.ensures.appends told honest left.bodies left.at_rest in
+    commits c.args.self.now.log left.bodies c.args.self.now.contents c.args.payload _ old left.side left.leads prepared.follows prepared.record_is left.at_rest
+    c.append.new.self _ (Ok tt) new appends
+    (acknowledged c.args.self.now.log left.bodies c.args.self.now.contents c.args.payload _ old left.side left.leads prepared.follows prepared.record_is left.at_rest
+    c.append.new.self new appends.acknowledged c.append.ensures.same_log.0)
+
+pub returns-in-Ok-clause-by_gate : goal.returns-in-Ok-clause-by_gate
+returns-in-Ok-clause-by_gate g c = λ told timed honest none.
+    let old = g.D.Disk.state c.args.disk.now in
+    let new = g.D.Disk.state c.append.new.disk in
+    let left = c.requires.at_rest told none in
+    let prepared = c.in_ok-framed.ensures.ok in
+    let appends = c.in-Ok.ensures.by_gate told timed honest left.bodies left.at_rest in
+    by_gate c.args.self.now.log left.bodies c.args.self.now.contents c.args.payload _ old left.side left.leads prepared.follows prepared.record_is left.at_rest
+    _ (Ok tt) new appends appends.calls
+
+pub returns-in-Ok-clause-ours : goal.returns-in-Ok-clause-ours
+returns-in-Ok-clause-ours g c = λ told honest was.
+    let old = g.D.Disk.state c.args.disk.now in
+    let new = g.D.Disk.state c.append.new.disk in
+    let none = none_of c.args.self.now.broken c.in_default.not-Some in
+    ours c.args.self.now.contents c.args.payload (Ok tt) old new (returns-in-Ok-clause-commits g c told honest none)
+
+pub returns-clause-early : goal.returns-clause-early
+returns-clause-early g c = λ other. absurd (other c.faults-count.result refl)
+
+pub returns-clause-commits : goal.returns-clause-commits
+returns-clause-commits g c = λ told honest none.
+    let old = g.D.Disk.state c.args.disk.now in
+    let new = g.D.Disk.state c.append.new.disk in
+    let left = c.requires.at_rest told none in
+    let prepared = c.in_ok-framed.ensures.ok in
+    commits c.args.self.now.log left.bodies c.args.self.now.contents c.args.payload _ old left.side left.leads prepared.follows prepared.record_is left.at_rest
+    c.append.new.self _ (Err (Failed c.faults-count.result)) new (c.append.ensures.appends told honest left.bodies left.at_rest) tt
+
+pub returns-clause-by_gate : goal.returns-clause-by_gate
+returns-clause-by_gate g c = λ told timed honest none.
+    let old = g.D.Disk.state c.args.disk.now in
+    let new = g.D.Disk.state c.append.new.disk in
+    let left = c.requires.at_rest told none in
+    let prepared = c.in_ok-framed.ensures.ok in
+    by_gate c.args.self.now.log left.bodies c.args.self.now.contents c.args.payload _ old left.side left.leads prepared.follows prepared.record_is left.at_rest
+    _ (Err (Failed c.faults-count.result)) new (c.append.ensures.by_gate told timed honest left.bodies left.at_rest) tt
+
+pub returns-clause-ours : goal.returns-clause-ours
+returns-clause-ours g c = λ told honest was.
+    let old = g.D.Disk.state c.args.disk.now in
+    let new = g.D.Disk.state c.append.new.disk in
+    let none = none_of c.args.self.now.broken c.in_default.not-Some in
+    ours c.args.self.now.contents c.args.payload (Err (Failed c.faults-count.result)) old new (returns-clause-commits g c told honest none)
