@@ -14,3 +14,6 @@ pub use commit::CommitEnd;
 pub use laws::a_file_has_one_state;
 pub use refusal::StoreRefusal;
 pub use store::Store;
+
+#[cfg(test)]
+mod tests;
