@@ -1,9 +1,10 @@
 -- Complete lines of bytes that are cut where a line ends, or behind the last one.
-use Rattle.std.proofs.Common.{◌≡◌, ℕ, zero, suc, ◌+◌, ◌-◌, ◌<◌, ◌≤◌, List, [], ◌∷◌, ◌++◌, length, get_or, take, Bool, true, false, cond, eqb, refl, sym, ap, ◌∙◌, subst, append_assoc, length-append, take-add, add-one, arith}
+use Rattle.std.proofs.Common.{◌≡◌, ℕ, zero, suc, ◌+◌, ◌-◌, ◌<◌, ◌≤◌, List, [], ◌∷◌, ◌++◌, length, get_or, take, Bool, true, false, cond, eqb, refl, sym, ap, ◌∙◌, subst, append_assoc, length-append, take-add, add-one, filter, nat_le, arith}
 use Rattle.std.specs.Prelude.{slice_range}
 use Rattle.std.proofs.lemmas.Bool.Decides.{nat_tests}
 use Rattle.std.proofs.lemmas.List.{take_more, length-take-le}
 use Rattle.landing_core.specs.Lines.{CompleteLine, complete_len, lines_from}
+use Rattle.landing_history.specs.Taken.{line_end}
 
 abbrev pub line_at : ℕ → List ℕ → CompleteLine
 line_at start begun = record { start = start; bytes = begun }
@@ -95,16 +96,25 @@ within (b ∷ bs) (suc i) is = omega (arith, within bs i is)
 from_start : (bytes : List ℕ) (q : ℕ) → lines_from 0 [] (take q bytes) ≡ lines_from 0 [] (take (q - 0) bytes)
 from_start bytes q = let same : q ≡ q - 0 = omega arith in ap (λ n. lines_from 0 [] (take n bytes)) same
 
-from_lf : (bytes : List ℕ) (i q : ℕ) → get_or bytes i 0 ≡ 10 → i + 1 ≤ q → lines_from 0 [] (take q bytes) ≡ lines_from 0 [] (take (i + 1) bytes) ++ lines_from (i + 1) [] (slice_range bytes (i + 1) q)
-from_lf bytes i q is later =
-    let inside : i < length bytes = within bytes i is in
-    let front : take (i + 1) bytes ≡ take i bytes ++ 10 ∷ [] = take_more bytes i 0 inside ∙ ap (λ b. take i bytes ++ b ∷ []) is in
+front_at_lf : (bytes : List ℕ) (i : ℕ) → get_or bytes i 0 ≡ 10 → take (i + 1) bytes ≡ take i bytes ++ 10 ∷ []
+front_at_lf bytes i is = take_more bytes i 0 (within bytes i is) ∙ ap (λ b. take i bytes ++ b ∷ []) is
+
+pub length_at_lf : (bytes : List ℕ) (i : ℕ) → get_or bytes i 0 ≡ 10 → length (take i bytes) ≡ i
+length_at_lf bytes i is = let inside : i < length bytes = within bytes i is in length-take-le i bytes (omega arith)
+
+pub split_at_lf : (bytes : List ℕ) (i q : ℕ) → get_or bytes i 0 ≡ 10 → i + 1 ≤ q → take q bytes ≡ take i bytes ++ 10 ∷ slice_range bytes (i + 1) q
+split_at_lf bytes i q is later =
+    let front : take (i + 1) bytes ≡ take i bytes ++ 10 ∷ [] = front_at_lf bytes i is in
     let rest = slice_range bytes (i + 1) q in
     let total : q ≡ (i + 1) + (q - (i + 1)) = omega arith in
-    let whole : take q bytes ≡ take i bytes ++ 10 ∷ rest = ap (λ n. take n bytes) total ∙ take-add (i + 1) (q - (i + 1)) bytes ∙ ap (λ xs. xs ++ rest) front ∙ append_assoc (take i bytes) (10 ∷ []) rest in
-    let long : length (take i bytes) ≡ i = length-take-le i bytes (omega arith) in
+    ap (λ n. take n bytes) total ∙ take-add (i + 1) (q - (i + 1)) bytes ∙ ap (λ xs. xs ++ rest) front ∙ append_assoc (take i bytes) (10 ∷ []) rest
+
+from_lf : (bytes : List ℕ) (i q : ℕ) → get_or bytes i 0 ≡ 10 → i + 1 ≤ q → lines_from 0 [] (take q bytes) ≡ lines_from 0 [] (take (i + 1) bytes) ++ lines_from (i + 1) [] (slice_range bytes (i + 1) q)
+from_lf bytes i q is later =
+    let rest = slice_range bytes (i + 1) q in
+    let long : length (take i bytes) ≡ i = length_at_lf bytes i is in
     let cut : lines_from 0 [] (take i bytes ++ 10 ∷ rest) ≡ lines_from 0 [] (take i bytes ++ 10 ∷ []) ++ lines_from (i + 1) [] rest = cut_at_lf 0 [] (take i bytes) rest (i + 1) (omega arith) in
-    ap (lines_from 0 []) whole ∙ cut ∙ ap (λ xs. lines_from 0 [] xs ++ lines_from (i + 1) [] rest) (sym front)
+    ap (lines_from 0 []) (split_at_lf bytes i q is later) ∙ cut ∙ ap (λ xs. lines_from 0 [] xs ++ lines_from (i + 1) [] rest) (sym (front_at_lf bytes i is))
 
 pub lines_between : (bytes : List ℕ) (p q : ℕ) → EndsAt bytes p → p ≤ q → lines_from 0 [] (take q bytes) ≡ lines_from 0 [] (take p bytes) ++ lines_from p [] (slice_range bytes p q)
 lines_between bytes zero q ends later = from_start bytes q
@@ -112,3 +122,38 @@ lines_between bytes (suc i) q ends later =
     let back : suc i - 1 ≡ i = omega arith in
     let is : get_or bytes i 0 ≡ 10 = rw back at (ends (omega arith)) in
     subst (λ n. lines_from 0 [] (take q bytes) ≡ lines_from 0 [] (take n bytes) ++ lines_from n [] (slice_range bytes n q)) (add-one i) (from_lf bytes i q is (omega arith))
+
+-- ---- the lines of a front are those that end within it
+
+abbrev ended : ℕ → CompleteLine → Bool
+ended place line = nat_le (line_end line) place
+
+none_ended_by : (place start : ℕ) (begun : List ℕ) (a b : List CompleteLine) (test : Bool) → place ≤ start + length begun → filter (ended place) a ≡ [] → filter (ended place) b ≡ [] → filter (ended place) (cond test (line_at start begun ∷ a) b) ≡ []
+none_ended_by place start begun a b true early ended_later going = by (nat_le (start + length begun + 1) place) refl
+  where
+    by : (late : Bool) → nat_le (start + length begun + 1) place ≡ late → cond late (line_at start begun ∷ filter (ended place) a) (filter (ended place) a) ≡ []
+    by true is = absurd (let never : ⊥ = grind (arith, nat_tests) in never)
+    by false is = ended_later
+none_ended_by place start begun a b false early ended_later going = going
+
+none_ended : (place start : ℕ) (begun bytes : List ℕ) → place ≤ start + length begun → filter (ended place) (lines_from start begun bytes) ≡ []
+none_ended place start begun [] early = refl
+none_ended place start begun (b ∷ bytes) early =
+    none_ended_by place start begun (lines_from (start + length begun + 1) [] bytes) (lines_from start (begun ++ b ∷ []) bytes) (eqb b 10) early (none_ended place (start + length begun + 1) [] bytes (omega arith)) (none_ended place start (begun ++ b ∷ []) bytes (omega (arith, length-append begun (b ∷ []))))
+
+ended_by : (place start : ℕ) (begun : List ℕ) (a b c d : List CompleteLine) (test : Bool) → start + length begun + 1 ≤ place → a ≡ filter (ended place) b → c ≡ filter (ended place) d → cond test (line_at start begun ∷ a) c ≡ filter (ended place) (cond test (line_at start begun ∷ b) d)
+ended_by place start begun a b c d true early ended_later going = by (nat_le (start + length begun + 1) place) refl
+  where
+    by : (late : Bool) → nat_le (start + length begun + 1) place ≡ late → line_at start begun ∷ a ≡ cond late (line_at start begun ∷ filter (ended place) b) (filter (ended place) b)
+    by true is = ap (λ lines. line_at start begun ∷ lines) ended_later
+    by false is = absurd (let never : ⊥ = grind (arith, nat_tests) in never)
+ended_by place start begun a b c d false early ended_later going = going
+
+ended_from : (start : ℕ) (begun : List ℕ) (n place : ℕ) (bytes : List ℕ) → place ≡ start + length begun + n → lines_from start begun (take n bytes) ≡ filter (ended place) (lines_from start begun bytes)
+ended_from start begun zero place bytes is = sym (none_ended place start begun bytes (omega arith))
+ended_from start begun (suc n) place [] is = refl
+ended_from start begun (suc n) place (b ∷ bytes) is =
+    ended_by place start begun (lines_from (start + length begun + 1) [] (take n bytes)) (lines_from (start + length begun + 1) [] bytes) (lines_from start (begun ++ b ∷ []) (take n bytes)) (lines_from start (begun ++ b ∷ []) bytes) (eqb b 10) (omega arith) (ended_from (start + length begun + 1) [] n place bytes (omega arith)) (ended_from start (begun ++ b ∷ []) n place bytes (omega (arith, length-append begun (b ∷ []))))
+
+pub front_lines : (bytes : List ℕ) (place : ℕ) → lines_from 0 [] (take place bytes) ≡ filter (λ line. nat_le (line_end line) place) (lines_from 0 [] bytes)
+front_lines bytes place = ended_from 0 [] place place bytes (omega arith)

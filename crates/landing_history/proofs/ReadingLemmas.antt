@@ -55,7 +55,7 @@ ends_by dir file ever known place true is here behind =
     λ above. subst (λ name. get_or (bytes_of dir name ever) (known.place - 1) 0 ≡ 10) same here.1
 ends_by dir file ever known place false is here behind = behind
 
-place_ends : (dir file : List ℕ) (ever : List LandingFile) (places : List FilePlace) → AreEnds dir ever places → EndsAt (bytes_of dir file ever) (place_of places file)
+pub place_ends : (dir file : List ℕ) (ever : List LandingFile) (places : List FilePlace) → AreEnds dir ever places → EndsAt (bytes_of dir file ever) (place_of places file)
 place_ends dir file ever [] ends = λ above. absurd (let never : ⊥ = omega arith in never)
 place_ends dir file ever (known ∷ more) ends = ends_by dir file ever known (place_of more file) (bytes_eq known.file file) refl ends.0 (place_ends dir file ever more ends.1)
 
@@ -85,11 +85,11 @@ unshrunk_by : (listed : Listed) (place : ℕ) (rest : Option Listed) (test : Boo
 unshrunk_by listed place rest true is none = absurd (let never : ⊥ = cc in never)
 unshrunk_by listed place rest false is none = (grind (arith, nat_tests), none)
 
-unshrunk_first : (places : List FilePlace) (listed : Listed) (more : List Listed) → shrunk places (listed ∷ more) ≡ None → (place_of places listed.file ≤ listed.size) × (shrunk places more ≡ None)
+pub unshrunk_first : (places : List FilePlace) (listed : Listed) (more : List Listed) → shrunk places (listed ∷ more) ≡ None → (place_of places listed.file ≤ listed.size) × (shrunk places more ≡ None)
 unshrunk_first places listed more none = unshrunk_by listed (place_of places listed.file) (shrunk places more) (nat_lt listed.size (place_of places listed.file)) refl none
 
 -- what is read of a listed file, in the words of one file that has these bytes for ever
-reach_is : (dir : List ℕ) (present ever : List LandingFile) (places : List FilePlace) (listed : Listed) → HoldsPresent present ever → listed.size ≤ length (bytes_of dir listed.file present) → place_of places listed.file ≤ listed.size → reach_of dir present places listed ≡ end_of (bytes_of dir listed.file ever) (place_of places listed.file) listed.size
+pub reach_is : (dir : List ℕ) (present ever : List LandingFile) (places : List FilePlace) (listed : Listed) → HoldsPresent present ever → listed.size ≤ length (bytes_of dir listed.file present) → place_of places listed.file ≤ listed.size → reach_of dir present places listed ≡ end_of (bytes_of dir listed.file ever) (place_of places listed.file) listed.size
 reach_is dir present ever places listed held within later =
     ap (λ bs. place_of places listed.file + complete_len bs) (same_range dir listed.file present ever (place_of places listed.file) listed.size held within later)
 
@@ -135,11 +135,11 @@ listed_adds format header dir present ever places listed held within later ends 
 -- ---- all listed files
 
 -- the places so far are those of before at the files that are still to be read
-abbrev Waits : List FilePlace → List FilePlace → List Listed → Type 0
+abbrev pub Waits : List FilePlace → List FilePlace → List Listed → Type 0
 Waits places so_far [] = Unit {0}
 Waits places so_far (listed ∷ more) = (place_of so_far listed.file ≡ place_of places listed.file) × Waits places so_far more
 
-waits_at_first : (places : List FilePlace) (listing : List Listed) → Waits places places listing
+pub waits_at_first : (places : List FilePlace) (listing : List Listed) → Waits places places listing
 waits_at_first places [] = tt
 waits_at_first places (listed ∷ more) = (refl, waits_at_first places more)
 
@@ -147,7 +147,7 @@ before_more : (file name : List ℕ) (more : List Listed) → slice_cmp nat_cmp 
 before_more file name [] less first = tt
 before_more file name (next ∷ more) less first = Rattle.std.proofs.lemmas.Cmp.nat_list_cmp_total.trans file name next.file less first
 
-still_waits : (places so_far : List FilePlace) (file : List ℕ) (place : ℕ) (more : List Listed) → IsBefore file (listed_names more) → AreAscending (listed_names more) → Waits places so_far more → Waits places (moved file place so_far) more
+pub still_waits : (places so_far : List FilePlace) (file : List ℕ) (place : ℕ) (more : List Listed) → IsBefore file (listed_names more) → AreAscending (listed_names more) → Waits places so_far more → Waits places (moved file place so_far) more
 still_waits places so_far file place [] first up waits = tt
 still_waits places so_far file place (listed ∷ more) first up waits =
     let other : bytes_eq file listed.file ≡ false = apart_below file listed.file (bytes_eq file listed.file) refl first in

@@ -1,5 +1,5 @@
 -- What was taken of a landing folder, said from scratch.
-use Rattle.std.specs.Prelude.{◌≡◌, ℕ, ◌-◌, ◌<◌, ◌||◌, List, [], ◌∷◌, length, map, take, slice_index, slice_index_or, Bool, if◌then◌else◌, Option, None}
+use Rattle.std.specs.Prelude.{◌≡◌, ℕ, ◌+◌, ◌-◌, ◌<◌, ◌||◌, List, [], ◌∷◌, length, map, take, slice_index, slice_index_or, Bool, if◌then◌else◌, Option, None}
 use Rattle.std.specs.List.{flat_map}
 use Rattle.value_core.specs.declared.cursor.Format.{Format}
 use Rattle.value_core.specs.declared.cursor.FilePlace.{FilePlace}
@@ -19,6 +19,10 @@ pub record LandedLine : Type 0 where
 -- a line of a file with this head, as a row; a blank line and the head are no rows
 abbrev pub landed_line : Format → Option CompleteLine → CompleteLine → List LandedLine
 landed_line format head line = if is_blank format (text_of line) || is_head (head_place head) line then [] else record { head = head_text head; text = text_of line } ∷ []
+
+-- the place where a line ends, behind its LF
+abbrev pub line_end : CompleteLine → ℕ
+line_end line = line.start + length line.bytes + 1
 
 -- the rows of a file with these bytes, from its beginning: those of its complete lines that end at or before this place
 abbrev pub taken_of : Format → Bool → List ℕ → ℕ → List LandedLine

@@ -1,12 +1,18 @@
-ghost use Rattle.std.specs.Prelude.{◌≡◌, ◌++◌, [], Bool, IsPermutation, List, ℕ};
+ghost use Rattle.std.specs.List.{flat_map};
+ghost use Rattle.std.specs.Prelude.{◌≡◌, ◌↔◌, ◌++◌, [], Bool, IsPermutation, List, filter, nat_le, take, ℕ};
+ghost use Rattle.value_core.specs.Bags.{SameBag};
+ghost use Rattle.value_core.specs.FilePlaces.{IsPlaces};
+ghost use Rattle.value_core.specs.Order.{Row};
 ghost use Rattle.value_core.specs.declared.cursor.FilePlace.{FilePlace};
 ghost use Rattle.value_core.specs.declared.cursor.Format.{Format};
+ghost use Rattle.landing_core.specs.Fresh.{heads_of, new_lines, reach};
+ghost use Rattle.landing_core.specs.Lines.{lines_from};
+ghost use Rattle.landing_core.specs.Names.{AreAscending};
+ghost use Rattle.landing_core.specs.Places.{AreAboveZero, placed_names};
 ghost use Rattle.landing_core.specs.declared.landing.LandingFile.{LandingFile};
 ghost use Rattle.landing_core.specs.declared.landing.Listed.{Listed};
-ghost use Rattle.landing_core.specs.Fresh.{heads_of, new_lines, reach};
-ghost use Rattle.landing_core.specs.Names.{AreAscending};
-ghost use Rattle.landing_core.specs.Places.{placed_names};
-ghost use Rattle.landing_history.specs.Taken.{AreEnds, CanReadOn, HaveGrown, taken, with_heads};
+ghost use Rattle.landing_history.specs.Readings.{AreListed, AreReadings, Reading, places_after, rows_found};
+ghost use Rattle.landing_history.specs.Taken.{AreEnds, CanReadOn, HaveGrown, LandedLine, line_end, taken, with_heads};
 
 /// A law: where each place is the end of a complete line, so is each place that a reading reaches.
 pub fn reach_keeps_ends()
@@ -38,4 +44,37 @@ pub fn growth_takes_nothing()
 /// A law: where no file was read, nothing was taken.
 pub fn nothing_is_taken_at_first()
     ensures { (format : Format) (header : Bool) (dir : List ℕ) (ever : List LandingFile) → taken format header dir ever [] ≡ [] }
+{}
+/// A law: what is taken of a file are its complete lines that end at or before the place.
+pub fn what_is_taken_has_ended()
+    ensures { (bytes : List ℕ) (place : ℕ) → lines_from 0 [] (take place bytes) ≡ filter (λ line. nat_le (line_end line) place) (lines_from 0 [] bytes) }
+{}
+
+/// A law: where each file that has a place is listed, a reading reaches as far as one from the
+/// beginning of each file does.
+pub fn reach_is_that_of_a_first_reading()
+    ensures { (dir : List ℕ) (present ever : List LandingFile) (places : List FilePlace) (listing : List Listed)
+        → CanReadOn dir present ever places listing → AreAscending (placed_names places) → AreEnds dir ever places → AreListed places listing
+        → reach dir present places listing ≡ reach dir present [] listing }
+{}
+
+/// A law: what readings one after the other have found is, in some order, what one look from the
+/// beginning of each file up to their places gives. No row is missing, and none is there twice.
+pub fn readings_find_what_is_taken()
+    ensures found { (format : Format) (header : Bool) (dir : List ℕ) (readings : List Reading) (now : List LandingFile)
+        → AreReadings dir readings now
+        → IsPermutation (rows_found format header dir readings) (taken format header dir now (places_after dir readings)) }
+    ensures ends { (dir : List ℕ) (readings : List Reading) (now : List LandingFile)
+        → AreReadings dir readings now → AreEnds dir now (places_after dir readings) }
+    ensures ascending { (dir : List ℕ) (readings : List Reading) → AreAscending (placed_names (places_after dir readings)) }
+{}
+
+/// A law: lines in another order give one bag of rows, whatever rows each line gives.
+pub fn order_of_lines_changes_no_bag()
+    ensures { (rows : LandedLine → List Row) (lines others : List LandedLine) → IsPermutation lines others → SameBag (flat_map rows lines) (flat_map rows others) }
+{}
+
+/// A law: places in files are those whose names ascend and that are above 0.
+pub fn places_have_one_form()
+    ensures { (places : List FilePlace) → IsPlaces places ↔ (AreAscending (placed_names places) × AreAboveZero places) }
 {}
