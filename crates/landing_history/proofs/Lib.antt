@@ -1,3 +1,4 @@
+pub mod FileGrowth
 pub mod FileLemmas
 pub mod GrowthLemmas
 pub mod HistoryLemmas

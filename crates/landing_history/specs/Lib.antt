@@ -1,2 +1,3 @@
+pub mod GrowingFile
 pub mod Readings
 pub mod Taken

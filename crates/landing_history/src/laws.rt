@@ -5,6 +5,7 @@ ghost use Rattle.value_core.specs.FilePlaces.{IsPlaces};
 ghost use Rattle.value_core.specs.Order.{Row};
 ghost use Rattle.value_core.specs.declared.cursor.FilePlace.{FilePlace};
 ghost use Rattle.value_core.specs.declared.cursor.Format.{Format};
+ghost use Rattle.landing_core.specs.Folders.{SameFiles, bytes_of, with_file};
 ghost use Rattle.landing_core.specs.Fresh.{heads_of, new_lines, reach};
 ghost use Rattle.landing_core.specs.Lines.{lines_from};
 ghost use Rattle.landing_core.specs.Names.{AreAscending};
@@ -77,4 +78,12 @@ pub fn order_of_lines_changes_no_bag()
 /// A law: places in files are those whose names ascend and that are above 0.
 pub fn places_have_one_form()
     ensures { (places : List FilePlace) → IsPlaces places ↔ (AreAscending (placed_names places) × AreAboveZero places) }
+{}
+
+/// A law: files that are the same have grown, what grew twice has grown, and so has a file that got
+/// more bytes behind those that it had, or that is new.
+pub fn growth_goes_file_by_file()
+    ensures same { (was now : List LandingFile) → SameFiles was now → HaveGrown was now }
+    ensures twice { (first was now : List LandingFile) → HaveGrown first was → HaveGrown was now → HaveGrown first now }
+    ensures one { (dir name more : List ℕ) (files : List LandingFile) → HaveGrown files (with_file dir name (bytes_of dir name files ++ more) files) }
 {}
