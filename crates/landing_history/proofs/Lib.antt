@@ -1,8 +1,10 @@
 pub mod FileGrowth
 pub mod FileLemmas
+pub mod FirstReading
 pub mod GrowthLemmas
 pub mod HistoryLemmas
 pub mod LineCuts
+pub mod ListingLemmas
 pub mod PlaceWalks
 pub mod ReadingLemmas
 pub mod WholeReadings

@@ -119,7 +119,7 @@ found_is format header dir present ever places listed held within later =
     λ i. flat_map (landed_line format (head_of format header (front i))) (lines_from place [] (range i))
 
 -- the rows of a folder, as a function of one file's place
-abbrev rows_at : Format → Bool → List ℕ → List LandingFile → FilePlace → List LandedLine
+abbrev pub rows_at : Format → Bool → List ℕ → List LandingFile → FilePlace → List LandedLine
 rows_at format header dir ever known = taken_of format header (bytes_of dir known.file ever) known.place
 
 abbrev Adds : Format → Bool → List ℕ → List LandingFile → List LandingFile → List FilePlace → Listed → Type 0

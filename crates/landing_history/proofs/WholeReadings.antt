@@ -37,7 +37,7 @@ complete_behind [] behind = lf_by (complete_len behind) (eqb (complete_len behin
 complete_behind (b ∷ front) behind =
     more_by (complete_len (front ++ 10 ∷ behind)) (length front) (complete_len behind) (cond (eqb b 10) 1 0) (eqb (complete_len (front ++ 10 ∷ behind)) 0) refl (complete_behind front behind)
 
-whole_len : (bytes : List ℕ) (place size : ℕ) → EndsAt bytes place → place ≤ size → complete_len (take size bytes) ≡ end_of bytes place size
+pub whole_len : (bytes : List ℕ) (place size : ℕ) → EndsAt bytes place → place ≤ size → complete_len (take size bytes) ≡ end_of bytes place size
 whole_len bytes zero size ends later =
     let same : size ≡ size - 0 = omega arith in
     ap (λ n. complete_len (take n bytes)) same ∙ omega arith
