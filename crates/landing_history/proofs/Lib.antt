@@ -6,5 +6,6 @@ pub mod HistoryLemmas
 pub mod LineCuts
 pub mod ListingLemmas
 pub mod PlaceWalks
+pub mod ReachLemmas
 pub mod ReadingLemmas
 pub mod WholeReadings

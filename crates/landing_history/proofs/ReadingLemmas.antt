@@ -143,7 +143,7 @@ pub waits_at_first : (places : List FilePlace) (listing : List Listed) → Waits
 waits_at_first places [] = tt
 waits_at_first places (listed ∷ more) = (refl, waits_at_first places more)
 
-before_more : (file name : List ℕ) (more : List Listed) → slice_cmp nat_cmp file name ≡ Less → IsBefore name (listed_names more) → IsBefore file (listed_names more)
+pub before_more : (file name : List ℕ) (more : List Listed) → slice_cmp nat_cmp file name ≡ Less → IsBefore name (listed_names more) → IsBefore file (listed_names more)
 before_more file name [] less first = tt
 before_more file name (next ∷ more) less first = Rattle.std.proofs.lemmas.Cmp.nat_list_cmp_total.trans file name next.file less first
 

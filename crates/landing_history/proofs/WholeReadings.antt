@@ -68,7 +68,7 @@ moved_by : (file name : List ℕ) (place : ℕ) (places : List FilePlace) (test 
 moved_by file name place places true is low = moved_zero file name place 0 places (bytes_eq file name) refl (grind (arith, nat_tests)) low
 moved_by file name place places false is low = placed_place file name place places
 
-moved_place : (file name : List ℕ) (place : ℕ) (places : List FilePlace) → place_of places file ≤ place → place_of (moved file place places) name ≡ cond (bytes_eq file name) place (place_of places name)
+pub moved_place : (file name : List ℕ) (place : ℕ) (places : List FilePlace) → place_of places file ≤ place → place_of (moved file place places) name ≡ cond (bytes_eq file name) place (place_of places name)
 moved_place file name place places low = moved_by file name place places (eqb place 0) refl low
 
 -- ---- all files, listed or not, come to the same places

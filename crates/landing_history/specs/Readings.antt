@@ -1,11 +1,14 @@
 -- Readings of a landing folder one after the other.
-use Rattle.std.specs.Prelude.{◌≡◌, ℕ, ◌||◌, List, [], ◌∷◌, ◌++◌, Bool, true, false}
+use Rattle.std.specs.Prelude.{◌≡◌, ℕ, ◌||◌, List, [], ◌∷◌, ◌++◌, take, Bool, true, false}
 use Rattle.std.specs.Str.{bytes_eq}
 use Rattle.value_core.specs.declared.cursor.Format.{Format}
 use Rattle.value_core.specs.declared.cursor.FilePlace.{FilePlace}
 use Rattle.landing_core.specs.declared.landing.LandingFile.{LandingFile}
 use Rattle.landing_core.specs.declared.landing.Listed.{Listed}
+use Rattle.landing_core.specs.Folders.{bytes_of}
 use Rattle.landing_core.specs.Fresh.{heads_of, new_lines, reach}
+use Rattle.landing_core.specs.Lines.{complete_len}
+use Rattle.landing_core.specs.Places.{place_of}
 use Rattle.landing_history.specs.Taken.{CanReadOn, HaveGrown, LandedLine, with_heads}
 
 -- one reading: the files that were there then, all files that were ever there by then, and what was listed
@@ -33,6 +36,11 @@ AreReadings dir (reading ∷ before) now = CanReadOn dir reading.present reading
 abbrev pub is_listed : List ℕ → List Listed → Bool
 is_listed name [] = false
 is_listed name (listed ∷ more) = bytes_eq listed.file name || is_listed name more
+
+-- each listed file's place is the end of its last complete line within its listed size, and 0 where there is none
+abbrev pub AreLastEnds : List ℕ → List LandingFile → List FilePlace → List Listed → Type 0
+AreLastEnds dir ever places [] = Unit {0}
+AreLastEnds dir ever places (listed ∷ more) = (place_of places listed.file ≡ complete_len (take listed.size (bytes_of dir listed.file ever))) × AreLastEnds dir ever places more
 
 -- each file that has a place is listed: none that was read has gone
 abbrev pub AreListed : List FilePlace → List Listed → Type 0

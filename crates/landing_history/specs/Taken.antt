@@ -41,7 +41,7 @@ abbrev pub AreEnds : List ℕ → List LandingFile → List FilePlace → Type 0
 AreEnds dir ever [] = Unit {0}
 AreEnds dir ever (known ∷ more) = IsLineEnd (bytes_of dir known.file ever) known.place × AreEnds dir ever more
 
--- a listing from which these files can be read on at these places
+-- a listing by which files can be read on from these places: its names ascend, each listed file is there with its listed size or more, what is there is all that was ever there under its name, and no listed size is below its file's place
 pub record CanReadOn (dir : List ℕ) (present ever : List LandingFile) (places : List FilePlace) (listing : List Listed) : Type 0 where
   pub named : AreAscending (listed_names listing)
   pub there : AreThere dir present listing

@@ -1,5 +1,5 @@
 ghost use Rattle.std.specs.List.{flat_map};
-ghost use Rattle.std.specs.Prelude.{◌≡◌, ◌↔◌, ◌++◌, [], Bool, IsPermutation, List, filter, nat_le, take, true, ℕ};
+ghost use Rattle.std.specs.Prelude.{◌≡◌, ◌↔◌, ◌++◌, [], Bool, IsPermutation, List, false, filter, nat_le, take, true, ℕ};
 ghost use Rattle.value_core.specs.Bags.{SameBag};
 ghost use Rattle.value_core.specs.FilePlaces.{IsPlaces};
 ghost use Rattle.value_core.specs.Order.{Row};
@@ -9,10 +9,10 @@ ghost use Rattle.landing_core.specs.Folders.{HoldsPresent, SameFiles, are_distin
 ghost use Rattle.landing_core.specs.Fresh.{heads_of, new_lines, reach};
 ghost use Rattle.landing_core.specs.Lines.{lines_from};
 ghost use Rattle.landing_core.specs.Names.{AreAscending};
-ghost use Rattle.landing_core.specs.Places.{AreAboveZero, placed_names};
+ghost use Rattle.landing_core.specs.Places.{AreAboveZero, place_of, placed_names};
 ghost use Rattle.landing_core.specs.declared.landing.LandingFile.{LandingFile};
 ghost use Rattle.landing_core.specs.declared.landing.Listed.{Listed};
-ghost use Rattle.landing_history.specs.Readings.{AreListed, AreReadings, Reading, places_after, rows_found};
+ghost use Rattle.landing_history.specs.Readings.{AreLastEnds, AreListed, AreReadings, Reading, is_listed, places_after, rows_found};
 ghost use Rattle.landing_history.specs.Taken.{AreEnds, CanReadOn, HaveGrown, LandedLine, line_end, taken, taken_of, with_heads};
 
 /// A law: where no file was read, nothing was taken.
@@ -33,6 +33,18 @@ pub fn reach_keeps_ends()
         → CanReadOn dir present ever places listing
         → AreEnds dir ever places
         → AreEnds dir ever (reach dir present places listing) }
+{}
+
+/// A law: a reading reaches the end of each listed file's last complete line within its listed size,
+/// whatever end of a line it began at, and leaves the places of other files as they were.
+pub fn reach_is_the_last_end()
+    ensures listed { (dir : List ℕ) (present ever : List LandingFile) (places : List FilePlace) (listing : List Listed)
+        → CanReadOn dir present ever places listing
+        → AreEnds dir ever places
+        → AreLastEnds dir ever (reach dir present places listing) listing }
+    ensures others { (dir : List ℕ) (present : List LandingFile) (places : List FilePlace) (listing : List Listed) (name : List ℕ)
+        → is_listed name listing ≡ false
+        → place_of (reach dir present places listing) name ≡ place_of places name }
 {}
 
 /// A law: what was taken before a reading and the rows that the reading finds are, in some order,
