@@ -3,3 +3,4 @@ pub mod LineLemmas
 pub mod PlaceLemmas
 pub mod RunLemmas
 pub mod TextLemmas
+pub mod WordLemmas

@@ -1,5 +1,5 @@
 -- How runs end over devices that don't fail.
-use Rattle.std.specs.Prelude.{◌≡◌, ℕ, ◌≤◌, List, [], ◌∷◌, length, take, true, Option, Some, None}
+use Rattle.std.specs.Prelude.{◌≡◌, ℕ, ◌≤◌, List, [], ◌∷◌, length, Option, Some, None}
 use Rattle.disk_model.specs.Faults.{Rose}
 use Rattle.plain_store.specs.declared.store.Store.{Store}
 use Rattle.plain_store.specs.Reading.{stored}
@@ -8,19 +8,20 @@ use Rattle.pipeline_run.specs.declared.command.Command.{Command}
 use Rattle.pipeline_run.specs.declared.command.Command.TheVariants as command
 use Rattle.pipeline_run.specs.declared.outcome.Status.{Status}
 use Rattle.pipeline_run.specs.declared.outcome.Status.TheVariants as status
-use Rattle.pipeline_run.specs.Pipeline.{is_accepted, text_limit}
+use Rattle.pipeline_run.specs.Pipeline.{the_pipeline, HasStatements}
 use Rattle.pipeline_run.specs.Run.{Around, Standing, Ran}
 use Rattle.pipeline_run.specs.Update.{Found, shrunk, lines, reach, with_lines}
 
 -- no device's count of failures rose between these standings
 pub record NothingFailed (old new : Standing) : Type 0 where
+  pub text : Rose old.faults.text new.faults.text → ⊥
   pub disk : Rose old.faults.disk new.faults.disk → ⊥
   pub landing : Rose old.faults.landing new.faults.landing → ⊥
   pub sink : Rose old.faults.sink new.faults.sink → ⊥
 
 -- a run that ended with this answer, and neither for a device nor for want of memory
-pub record RanWell (asked : Option (List Command)) (text : List ℕ) (around : Around) (answer : Status) (old new : Standing) : Type 0 where
-  pub ran : Ran asked text ⊥ around answer old new
+pub record RanWell (asked : Option (List Command)) (around : Around) (answer : Status) (old new : Standing) : Type 0 where
+  pub ran : Ran asked around answer old new
   pub fine : NothingFailed old new
   pub memory : answer ≡ status.Memory → ⊥
 
@@ -30,14 +31,22 @@ pub record SameEnd (answer other : Status) (new also : Standing) : Type 0 where
   pub file : new.file ≡ also.file
   pub printed : new.printed ≡ also.printed
 
--- an update of this text over this store has nothing to refuse: the text is accepted, the file is a store's, no listed
--- file is shorter than its place, and the new file has room
-pub record NothingRefused (text : List ℕ) (around : Around) (old : Standing) (store : Store) : Type 0 where
-  pub accepted : is_accepted (take text_limit text) ≡ true
-  pub holds : stored old.file ≡ Some store
-  pub none_shrank : let found : Found = record { file = old.file; room = around.room; landing = around.landing } in shrunk found store ≡ None
-  pub fits : let found : Found = record { file = old.file; room = around.room; landing = around.landing } in length (spelling (with_lines store (lines found store) (reach found store))) ≤ around.room
+-- an update over this file has nothing to refuse: the text is the pipeline that it is built for, the file is this
+-- store's, no listed file is shorter than its place, and the new file has room
+pub record NothingRefused (around : Around) (file : List ℕ) (store : Store) : Type 0 where
+  pub accepted : HasStatements around.text the_pipeline
+  pub holds : stored file ≡ Some store
+  pub none_shrank : let found : Found = record { file = file; room = around.room; landing = around.landing } in shrunk found store ≡ None
+  pub fits : let found : Found = record { file = file; room = around.room; landing = around.landing } in length (spelling (with_lines store (lines found store) (reach found store))) ≤ around.room
 
--- the words asked for one update
-abbrev pub one_update : Option (List Command)
-one_update = Some (command.Update ∷ [])
+-- commands that change nothing
+abbrev pub AreValidates : List Command → Type 0
+AreValidates [] = Unit {0}
+AreValidates (command.Validate ∷ commands) = AreValidates commands
+AreValidates (command.Update ∷ commands) = ⊥
+
+-- one update, with commands before and behind it that change nothing
+abbrev pub HaveOneUpdate : List Command → Type 0
+HaveOneUpdate [] = ⊥
+HaveOneUpdate (command.Validate ∷ commands) = HaveOneUpdate commands
+HaveOneUpdate (command.Update ∷ commands) = AreValidates commands

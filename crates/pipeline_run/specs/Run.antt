@@ -1,30 +1,36 @@
 -- What a run does.
-use Rattle.std.specs.Prelude.{◌≡◌, ◌≢◌, ◌⊎◌, ℕ, ◌≤◌, List, [], ◌∷◌, ◌++◌, take, Bool, true, false, Option, Some, None}
+use Rattle.std.specs.Prelude.{◌≡◌, ◌≢◌, ◌⊎◌, ℕ, ◌≤◌, List, [], ◌∷◌, ◌++◌, take, Option, Some, None}
 use Rattle.disk_model.specs.Faults.{Rose}
 use Rattle.landing_core.specs.declared.landing.LandingFile.{LandingFile}
+use Rattle.sql_tree.specs.declared.statement.Statement.{Statement}
+use Rattle.pipeline_sql.specs.Read.{IsRefused}
 use Rattle.pipeline_run.specs.declared.command.Command.{Command}
 use Rattle.pipeline_run.specs.declared.command.Command.TheVariants as command
 use Rattle.pipeline_run.specs.declared.outcome.Outcome.{Outcome}
-use Rattle.pipeline_run.specs.declared.outcome.Outcome.TheVariants.{Usage, NotSupported, TextFailed, DiskFailed, LandingFailed}
+use Rattle.pipeline_run.specs.declared.outcome.Outcome.TheVariants.{Usage, TextFailed, Refused, NotSupported, Valid, DiskFailed, LandingFailed}
 use Rattle.pipeline_run.specs.declared.outcome.Status.{Status}
 use Rattle.pipeline_run.specs.declared.outcome.Status.TheVariants as status
-use Rattle.pipeline_run.specs.Pipeline.{is_accepted, text_limit}
+use Rattle.pipeline_run.specs.Pipeline.{the_pipeline, text_limit, HasStatements}
 use Rattle.pipeline_run.specs.Report.{printed, status_of}
 use Rattle.pipeline_run.specs.Update.{Updates}
 
--- what stays as it is during a run: how long the store's file may get, and the landing files
+-- what stays as it is during a run: what the source of the text has left when it begins, how long the store's file may
+-- get, and the landing files
 pub record Around : Type 0 where
+  pub text : List ℕ
   pub room : ℕ
   pub landing : List LandingFile
 
 -- how often each device has failed that commands use
 pub record Counts : Type 0 where
+  pub text : ℕ
   pub disk : ℕ
   pub landing : ℕ
   pub sink : ℕ
 
 -- no count falls
 pub record NoneFalls (old new : Counts) : Type 0 where
+  pub text : old.text ≤ new.text
   pub disk : old.disk ≤ new.disk
   pub landing : old.landing ≤ new.landing
   pub sink : old.sink ≤ new.sink
@@ -42,9 +48,9 @@ pub record IsTold (outcome : Outcome) (answer : Status) (old new : Standing) : T
   pub status : answer ≡ status_of outcome
   pub line : new.printed ≡ old.printed ++ printed outcome
 
--- it couldn't be told: the sink failed or memory ran out, and a front of the line was printed
+-- it couldn't be told: the sink failed at its line or memory ran out, and a front of the line was printed
 pub record IsCut (outcome : Outcome) (answer : Status) (old new : Standing) : Type 0 where
-  pub status : ((answer ≡ status.Sink) × Rose old.faults.sink new.faults.sink) ⊎ (answer ≡ status.Memory)
+  pub status : ((answer ≡ status.Sink) × Rose old.faults.sink new.faults.sink × (printed outcome ≢ [])) ⊎ (answer ≡ status.Memory)
   pub line : (n : ℕ) × (new.printed ≡ old.printed ++ take n (printed outcome))
 
 abbrev pub Tells : Outcome → Status → Standing → Standing → Type 0
@@ -59,19 +65,28 @@ pub record RunsOut (answer : Status) (old new : Standing) : Type 0 where
 
 -- ---- one command
 
--- when a command comes to an outcome
-abbrev pub Comes : Command → Around → Outcome → Standing → Standing → Type 0
-Comes command.Update around outcome old new = Updates (record { file = old.file; room = around.room; landing = around.landing }) outcome new.file
+-- When a command comes to an outcome, and the bytes of the store's file before and after it. Each command needs the
+-- text. One whose text couldn't be read, or is refused, or isn't what the command is built for, leaves the file as it was.
+abbrev pub Comes : Command → Around → Outcome → List ℕ → List ℕ → Type 0
+Comes command around TextFailed before after = after ≡ before
+Comes command around (Refused refusal) before after = IsRefused (take text_limit around.text) refusal × (after ≡ before)
+Comes command.Validate around Valid before after = ((statements : List Statement) × HasStatements around.text statements) × (after ≡ before)
+Comes command.Validate around outcome before after = ⊥
+Comes command.Update around NotSupported before after =
+    ((statements : List Statement) × HasStatements around.text statements × (statements ≢ the_pipeline)) × (after ≡ before)
+Comes command.Update around outcome before after =
+    HasStatements around.text the_pipeline × Updates (record { file = before; room = around.room; landing = around.landing }) outcome after
 
 -- an outcome that blames a device comes only where that device's count rose
 abbrev pub Blames : Counts → Counts → Outcome → Type 0
+Blames before now TextFailed = Rose before.text now.text
 Blames before now DiskFailed = Rose before.disk now.disk
 Blames before now LandingFailed = Rose before.landing now.landing
 Blames before now _ = Unit {0}
 
 -- a command came to this outcome
 pub record Does (command : Command) (around : Around) (answer : Status) (old new : Standing) (outcome : Outcome) : Type 0 where
-  pub comes : Comes command around outcome old new
+  pub comes : Comes command around outcome old.file new.file
   pub blames : Blames old.faults new.faults outcome
   pub tells : Tells outcome answer old new
   pub later : NoneFalls old.faults new.faults
@@ -94,16 +109,10 @@ pub record Refuses (outcome : Outcome) (answer : Status) (old new : Standing) : 
   pub file : new.file ≡ old.file
   pub tells : Tells outcome answer old new
 
-abbrev pub RunsBy : Bool → List Command → Around → Status → Standing → Standing → Type 0
-RunsBy true commands around answer old new = Runs around commands answer old new
-RunsBy false commands around answer old new = Refuses NotSupported answer old new
-
--- The words come first, and then the text, of which the source may have failed; then the commands.
-abbrev pub Ran : Option (List Command) → List ℕ → Type 0 → Around → Status → Standing → Standing → Type 0
-Ran None text failed around answer old new = Refuses Usage answer old new ⊎ RunsOut answer old new
-Ran (Some commands) text failed around answer old new =
-    (failed × Refuses TextFailed answer old new) ⊎ RunsOut answer old new
-    ⊎ RunsBy (is_accepted (take text_limit text)) commands around answer old new
+-- The words come first, and then the commands in order.
+abbrev pub Ran : Option (List Command) → Around → Status → Standing → Standing → Type 0
+Ran None around answer old new = Refuses Usage answer old new ⊎ RunsOut answer old new
+Ran (Some commands) around answer old new = RunsOut answer old new ⊎ Runs around commands answer old new
 
 -- ---- answers over any devices
 
@@ -113,11 +122,21 @@ IsTelling outcome status.Sink = Unit {0}
 IsTelling outcome status.Memory = Unit {0}
 IsTelling outcome answer = answer ≡ status_of outcome
 
+-- what a command doesn't come to
+abbrev pub IsOfCommand : Outcome → Type 0
+IsOfCommand Usage = ⊥
+IsOfCommand outcome = Unit {0}
+
+-- and neither where there are statements
+abbrev pub IsOfStatements : Outcome → Type 0
+IsOfStatements Usage = ⊥
+IsOfStatements TextFailed = ⊥
+IsOfStatements (Refused refusal) = ⊥
+IsOfStatements outcome = Unit {0}
+
 -- what commands answer
 abbrev pub IsOfCommands : Status → Type 0
 IsOfCommands status.Usage = ⊥
-IsOfCommands status.Pipeline = ⊥
-IsOfCommands status.Text = ⊥
 IsOfCommands _ = Unit {0}
 
 -- an answer is Usage exactly where the words are of no form, but for those that say that the line couldn't be printed

@@ -14,7 +14,7 @@ use Rattle.plain_store.specs.Order.{in_value_order}
 use Rattle.plain_store.specs.Reading.{stored}
 use Rattle.plain_store.specs.Spelling.{spelling}
 use Rattle.pipeline_run.specs.declared.outcome.Outcome.{Outcome}
-use Rattle.pipeline_run.specs.declared.outcome.Outcome.TheVariants.{Usage, NotSupported, TextFailed, Foreign, Full, DiskFailed, Completed, Current, Shrunk, LandingFailed}
+use Rattle.pipeline_run.specs.declared.outcome.Outcome.TheVariants.{Usage, TextFailed, Refused, NotSupported, Valid, Foreign, Full, DiskFailed, Completed, Current, Shrunk, LandingFailed}
 use Rattle.pipeline_run.specs.JsonLine.{values_of}
 use Rattle.pipeline_run.specs.Pipeline.{folder}
 
@@ -99,8 +99,10 @@ Updates found outcome after = FlowRuns found outcome after
 -- what an update doesn't come to
 abbrev pub IsOfUpdate : Outcome → Type 0
 IsOfUpdate Usage = ⊥
-IsOfUpdate NotSupported = ⊥
 IsOfUpdate TextFailed = ⊥
+IsOfUpdate (Refused refusal) = ⊥
+IsOfUpdate NotSupported = ⊥
+IsOfUpdate Valid = ⊥
 IsOfUpdate outcome = Unit {0}
 
 -- what a commit comes to

@@ -5,9 +5,9 @@ ghost use Rattle.serde_json.specs.View.{view};
 ghost use Rattle.plain_store.specs.Order.{in_value_order};
 
 use landing_core::FreshLine;
+use plain_store::sort_values;
 use serde_json::Value as Json;
 use std::alloc::{AllocError, Global};
-use plain_store::sort_values;
 use value_core::Value;
 
 /// The column that is read.

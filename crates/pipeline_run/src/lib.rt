@@ -9,11 +9,15 @@ mod outcome;
 mod pipeline;
 mod program;
 mod report;
+mod supported;
 mod update;
 
 pub use command::Command;
 pub use in_memory::run_in_memory;
-pub use laws::{a_run_has_one_end, an_update_succeeds_where_nothing_is_refused};
+pub use laws::{
+    a_run_has_one_end, an_update_succeeds_where_nothing_is_refused,
+    validates_succeed_where_the_text_reads,
+};
 pub use outcome::{Outcome, Status};
 pub use program::run;
 

@@ -1,18 +1,17 @@
 // The text of a pipeline.
-ghost use Rattle.std.specs.Prelude.{◌≡◌, ◌≤◌, ◌<◌, ◌+◌, [], ◌++◌, length, take, OnOk, IfOk};
+ghost use Rattle.std.specs.Prelude.{◌≡◌, ◌≤◌, ◌<◌, ◌+◌, ℕ, List, [], ◌++◌, length, take, OnOk, IfOk, IfErr};
 ghost use Rattle.disk_model.specs.Faults.{HasCauseOf};
 ghost use Rattle.disk_model.specs.Streams.{TakesNext};
-ghost use Rattle.pipeline_run.specs.Pipeline.{is_accepted, text_limit, without_lf};
+ghost use Rattle.pipeline_run.specs.Pipeline.{text_limit, HasStatements, Knows, IsCauseOf};
 
 use disk_model::{Failed, Source};
+use pipeline_sql::read;
+use sql_tokens::SqlRefusal;
+use sql_tree::Statements;
 use std::alloc::{AllocError, Global};
 
 /// How much of a text is read at most: one byte more than it may have.
 const TEXT_LIMIT: usize = 1_048_577;
-
-/// The one text that is accepted, with or without one LF at its end.
-const ACCEPTED: &str =
-    "CREATE OR REFRESH STREAMING TABLE t AS SELECT a FROM STREAM read_files('in', format => 'json', schema => 'a BIGINT')";
 
 /// Why something wasn't read or written: the outside failed, or memory ran out.
 #[derive(Clone, Copy, Debug, PartialEq, Eq)]
@@ -43,24 +42,6 @@ impl From<Failed> for Fault {
     }
 }
 
-/// A text without one LF at its end.
-fn trim_lf(text: &[u8]) -> &[u8]
-    ensures { result.now ≡ without_lf text.now }
-{
-    if !text.is_empty() && text[text.len() - 1] == b'\n' {
-        &text[..text.len() - 1]
-    } else {
-        text
-    }
-}
-
-/// Whether a text is the one that is accepted.
-pub(crate) fn accepts(text: &[u8]) -> bool
-    ensures { result ≡ is_accepted text.now }
-{
-    trim_lf(text) == ACCEPTED.as_bytes()
-}
-
 /// Reads one piece and adds it to the text: how long it was.
 fn read_piece<T: Source>(
     source: &mut T,
@@ -80,7 +61,7 @@ fn read_piece<T: Source>(
 }
 
 /// The whole text that a source has left, up to the limit.
-pub(crate) fn read_text<T: Source>(alloc: Global, source: &mut T) -> Result<Vec<u8>, Fault>
+fn read_text<T: Source>(alloc: Global, source: &mut T) -> Result<Vec<u8>, Fault>
     ensures text { T.tells → IfOk result (λ text. text.items ≡ take text_limit (T.left source.old)) }
     ensures amount { T.tells → length (T.left source.old) ≤ length (T.left source.new) + text_limit }
     ensures cause { HasCauseOf Fault.Failed (T.faults source.old) (T.faults source.new) result }
@@ -94,4 +75,45 @@ pub(crate) fn read_text<T: Source>(alloc: Global, source: &mut T) -> Result<Vec<
         }
     }
     Ok(text)
+}
+
+/// Why a pipeline has no statements: its text couldn't be read, or is refused.
+#[derive(Clone, Copy, Debug, PartialEq, Eq)]
+pub(crate) enum Unread {
+    Failed,
+    Refused(SqlRefusal),
+}
+
+/// The statements of the text that a source has left.
+#[tactic(auto, unfolding(crate::specs::Pipeline::HasStatements))]
+fn read_statements<T: Source>(alloc: Global, source: &mut T) -> Result<Statements, Unread>
+    ensures statements { T.tells → IfOk result (λ statements. HasStatements (T.left source.old) statements) }
+    ensures err { T.tells → IfErr result (IsCauseOf (T.left source.old)) }
+    ensures amount { T.tells → length (T.left source.old) ≤ length (T.left source.new) + text_limit }
+    ensures cause { HasCauseOf Unread.Failed (T.faults source.old) (T.faults source.new) result }
+{
+    let text = match read_text(alloc, source) {
+        Ok(text) => text,
+        Err(Fault::Failed) => return Err(Unread::Failed),
+        Err(Fault::Memory) => return Err(Unread::Refused(SqlRefusal::Memory)),
+    };
+    read(alloc, text.as_slice()).map_err(Unread::Refused)
+}
+
+/// The statements of a run's text. It is read where they aren't known yet.
+pub(crate) fn statements<T: Source>(
+    alloc: Global,
+    source: &mut T,
+    known: Option<Statements>,
+) -> Result<Statements, Unread>
+    // Whatever the text of the run is.
+    ensures statements { T.tells → (text : List ℕ) → Knows text known (T.left source.old) → IfOk result (λ statements. HasStatements text statements) }
+    ensures err { T.tells → (text : List ℕ) → Knows text known (T.left source.old) → IfErr result (IsCauseOf text) }
+    ensures amount { T.tells → (text : List ℕ) → Knows text known (T.left source.old) → length text ≤ length (T.left source.old) + text_limit → length text ≤ length (T.left source.new) + text_limit }
+    ensures cause { HasCauseOf Unread.Failed (T.faults source.old) (T.faults source.new) result }
+{
+    match known {
+        Some(statements) => Ok(statements),
+        None => read_statements(alloc, source),
+    }
 }

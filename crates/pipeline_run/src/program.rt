@@ -1,20 +1,24 @@
 // A whole run.
-ghost use Rattle.std.specs.Prelude.{◌≡◌, ◌≤◌, ◌+◌, ℕ, List, Ok, map, length, string_bytes};
+ghost use Rattle.std.specs.Prelude.{◌≡◌, ◌≤◌, ◌+◌, ℕ, List, Ok, map, length, string_bytes, IfOk, OnErr};
 ghost use Rattle.disk_model.specs.Faults.{Rose};
 ghost use Rattle.pipeline_run.specs.Command.{commands_of};
-ghost use Rattle.pipeline_run.specs.Pipeline.{text_limit};
-ghost use Rattle.pipeline_run.specs.Run.{Around, Counts, Standing, Tells, Executes, Runs, Refuses, Ran, IsTelling, IsOfCommands, AnswersUsage};
+ghost use Rattle.pipeline_run.specs.Pipeline.{text_limit, HasStatements, Knows};
+ghost use Rattle.pipeline_run.specs.Report.{status_of};
+ghost use Rattle.pipeline_run.specs.Run.{Around, Counts, Standing, Comes, Tells, Executes, Runs, Refuses, Ran, IsTelling, IsOfCommand, IsOfStatements, IsOfCommands, AnswersUsage};
 
 use crate::command::{Command, commands};
 use crate::outcome::{Outcome, Status};
-use crate::pipeline::{Fault, accepts, read_text};
+use crate::pipeline::{Unread, statements};
 use crate::report::{line, status};
+use crate::supported::is_supported;
 use crate::update::update;
 use disk_model::{Disk, Sink, SinkFault, Source};
 use landing_core::Landing;
-use std::alloc::Global;
+use sql_tokens::SqlRefusal;
+use sql_tree::Statements;
+use std::alloc::{AllocError, Global};
 
-/// Prints the line of an outcome, and answers its status.
+/// Prints the line of an outcome, if it has one, and answers its status.
 fn tell<S: Sink>(alloc: Global, out: &mut S, outcome: &Outcome) -> Status
     // Whatever the file and the other devices are.
     ensures tells { S.tells → (file_before file_now : List ℕ) (before now : Counts) → before.sink ≡ S.faults out.old → now.sink ≡ S.faults out.new → Tells outcome.now result (record { file = file_before; printed = S.written out.old; faults = before }) (record { file = file_now; printed = S.written out.new; faults = now }) }
@@ -25,6 +29,9 @@ fn tell<S: Sink>(alloc: Global, out: &mut S, outcome: &Outcome) -> Status
     let Ok(line) = line(alloc, outcome) else {
         return Status::Memory;
     };
+    if line.is_empty() {
+        return status(outcome);
+    }
     match out.write(line.as_slice()) {
         Ok(()) => status(outcome),
         Err(SinkFault::Failed) => Status::Sink,
@@ -32,57 +39,133 @@ fn tell<S: Sink>(alloc: Global, out: &mut S, outcome: &Outcome) -> Status
     }
 }
 
-/// Executes one command.
-fn execute<D: Disk, L: Landing, S: Sink>(
+/// What a command comes to with these statements of the text.
+fn outcome_by<D: Disk, L: Landing>(
     alloc: Global,
     command: Command,
+    statements: &Statements,
+    disk: &mut D,
+    landing: &mut L,
+) -> Result<Outcome, AllocError>
+    ensures comes { D.tells → L.tells → (text : List ℕ) → HasStatements text statements.now → IfOk result (λ outcome. Comes command (record { text = text; room = D.room disk.old; landing = L.present landing.old }) outcome (D.state disk.old).now.left (D.state disk.new).now.left) }
+    ensures err { D.tells → OnErr result ((D.state disk.new).now.left ≡ (D.state disk.old).now.left) }
+    ensures other { D.tells → (D.state disk.new).now.right ≡ (D.state disk.old).now.right }
+    ensures room { D.room disk.new ≡ D.room disk.old }
+    ensures disk_later { D.faults disk.old ≤ D.faults disk.new }
+    ensures landing_later { L.faults landing.old ≤ L.faults landing.new }
+    ensures present { L.tells → L.present landing.new ≡ L.present landing.old }
+    ensures ever { L.tells → L.ever landing.new ≡ L.ever landing.old }
+    ensures own { IfOk result IsOfStatements }
+    ensures disk_fault { result ≡ Ok Outcome.DiskFailed → Rose (D.faults disk.old) (D.faults disk.new) }
+    ensures landing_fault { result ≡ Ok Outcome.LandingFailed → Rose (L.faults landing.old) (L.faults landing.new) }
+{
+    match command {
+        Command::Validate => Ok(Outcome::Valid),
+        Command::Update => {
+            if is_supported(statements.as_slice()) {
+                update(alloc, disk, landing)
+            } else {
+                Ok(Outcome::NotSupported)
+            }
+        }
+    }
+}
+
+/// What a command comes to. It reads the text where no command before it has.
+fn outcome_of<T: Source, D: Disk, L: Landing>(
+    alloc: Global,
+    command: Command,
+    text: &mut T,
+    known: &mut Option<Statements>,
+    disk: &mut D,
+    landing: &mut L,
+) -> Result<Outcome, AllocError>
+    // Whatever the text of the run is.
+    ensures comes { T.tells → D.tells → L.tells → (whole : List ℕ) → Knows whole known.old (T.left text.old) → IfOk result (λ outcome. Comes command (record { text = whole; room = D.room disk.old; landing = L.present landing.old }) outcome (D.state disk.old).now.left (D.state disk.new).now.left) }
+    ensures knows { T.tells → (whole : List ℕ) → Knows whole known.old (T.left text.old) → IfOk result (λ outcome. status_of outcome ≡ Status.Ok → Knows whole known.new (T.left text.new)) }
+    ensures amount { T.tells → (whole : List ℕ) → Knows whole known.old (T.left text.old) → length whole ≤ length (T.left text.old) + text_limit → length whole ≤ length (T.left text.new) + text_limit }
+    ensures err { D.tells → OnErr result ((D.state disk.new).now.left ≡ (D.state disk.old).now.left) }
+    ensures other { D.tells → (D.state disk.new).now.right ≡ (D.state disk.old).now.right }
+    ensures room { D.room disk.new ≡ D.room disk.old }
+    ensures text_later { T.faults text.old ≤ T.faults text.new }
+    ensures disk_later { D.faults disk.old ≤ D.faults disk.new }
+    ensures landing_later { L.faults landing.old ≤ L.faults landing.new }
+    ensures present { L.tells → L.present landing.new ≡ L.present landing.old }
+    ensures ever { L.tells → L.ever landing.new ≡ L.ever landing.old }
+    ensures own { IfOk result IsOfCommand }
+    ensures text_fault { result ≡ Ok Outcome.TextFailed → Rose (T.faults text.old) (T.faults text.new) }
+    ensures disk_fault { result ≡ Ok Outcome.DiskFailed → Rose (D.faults disk.old) (D.faults disk.new) }
+    ensures landing_fault { result ≡ Ok Outcome.LandingFailed → Rose (L.faults landing.old) (L.faults landing.new) }
+{
+    let statements = match statements(alloc, text, known.take()) {
+        Ok(statements) => statements,
+        Err(Unread::Failed) => return Ok(Outcome::TextFailed),
+        Err(Unread::Refused(SqlRefusal::Memory)) => return Err(AllocError),
+        Err(Unread::Refused(refusal)) => return Ok(Outcome::Refused(refusal)),
+    };
+    let outcome = outcome_by(alloc, command, &statements, disk, landing);
+    *known = Some(statements);
+    outcome
+}
+
+/// Executes one command.
+fn execute<T: Source, D: Disk, L: Landing, S: Sink>(
+    alloc: Global,
+    command: Command,
+    text: &mut T,
+    known: &mut Option<Statements>,
     disk: &mut D,
     landing: &mut L,
     out: &mut S,
 ) -> Status
-    ensures executes { D.tells → L.tells → S.tells → Executes command (record { room = D.room disk.old; landing = L.present landing.old }) result
-        (record { file = (D.state disk.old).now.left; printed = S.written out.old; faults = record { disk = D.faults disk.old; landing = L.faults landing.old; sink = S.faults out.old } })
-        (record { file = (D.state disk.new).now.left; printed = S.written out.new; faults = record { disk = D.faults disk.new; landing = L.faults landing.new; sink = S.faults out.new } }) }
+    // Whatever the text of the run is.
+    ensures executes { T.tells → D.tells → L.tells → S.tells → (whole : List ℕ) → Knows whole known.old (T.left text.old) → Executes command (record { text = whole; room = D.room disk.old; landing = L.present landing.old }) result
+        (record { file = (D.state disk.old).now.left; printed = S.written out.old; faults = record { text = T.faults text.old; disk = D.faults disk.old; landing = L.faults landing.old; sink = S.faults out.old } })
+        (record { file = (D.state disk.new).now.left; printed = S.written out.new; faults = record { text = T.faults text.new; disk = D.faults disk.new; landing = L.faults landing.new; sink = S.faults out.new } }) }
+    ensures knows { T.tells → (whole : List ℕ) → Knows whole known.old (T.left text.old) → result ≡ Status.Ok → Knows whole known.new (T.left text.new) }
+    ensures amount { T.tells → (whole : List ℕ) → Knows whole known.old (T.left text.old) → length whole ≤ length (T.left text.old) + text_limit → length whole ≤ length (T.left text.new) + text_limit }
     ensures other { D.tells → (D.state disk.new).now.right ≡ (D.state disk.old).now.right }
     ensures room { D.room disk.new ≡ D.room disk.old }
     ensures present { L.tells → L.present landing.new ≡ L.present landing.old }
     ensures ever { L.tells → L.ever landing.new ≡ L.ever landing.old }
     ensures own { IsOfCommands result }
+    ensures text_later { T.faults text.old ≤ T.faults text.new }
     ensures disk_later { D.faults disk.old ≤ D.faults disk.new }
-    ensures landing_later { L.faults landing.old ≤ L.faults landing.new }
     ensures sink_later { S.faults out.old ≤ S.faults out.new }
+    ensures text_fault { result ≡ Status.Text → Rose (T.faults text.old) (T.faults text.new) }
     ensures disk_fault { result ≡ Status.Disk → Rose (D.faults disk.old) (D.faults disk.new) }
     ensures sink_fault { result ≡ Status.Sink → Rose (S.faults out.old) (S.faults out.new) }
 {
-    let outcome = match command {
-        Command::Update => update(alloc, disk, landing),
-    };
-    match outcome {
+    match outcome_of(alloc, command, text, known, disk, landing) {
         Ok(outcome) => tell(alloc, out, &outcome),
         Err(_) => Status::Memory,
     }
 }
 
 /// Executes commands in order. The first answer other than Ok ends them.
-fn execute_all<D: Disk, L: Landing, S: Sink>(
+fn execute_all<T: Source, D: Disk, L: Landing, S: Sink>(
     alloc: Global,
     commands: &[Command],
+    text: &mut T,
     disk: &mut D,
     landing: &mut L,
     out: &mut S,
 ) -> Status
-    ensures runs { D.tells → L.tells → S.tells → Runs (record { room = D.room disk.old; landing = L.present landing.old }) commands.now result
-        (record { file = (D.state disk.old).now.left; printed = S.written out.old; faults = record { disk = D.faults disk.old; landing = L.faults landing.old; sink = S.faults out.old } })
-        (record { file = (D.state disk.new).now.left; printed = S.written out.new; faults = record { disk = D.faults disk.new; landing = L.faults landing.new; sink = S.faults out.new } }) }
+    ensures runs { T.tells → D.tells → L.tells → S.tells → Runs (record { text = T.left text.old; room = D.room disk.old; landing = L.present landing.old }) commands.now result
+        (record { file = (D.state disk.old).now.left; printed = S.written out.old; faults = record { text = T.faults text.old; disk = D.faults disk.old; landing = L.faults landing.old; sink = S.faults out.old } })
+        (record { file = (D.state disk.new).now.left; printed = S.written out.new; faults = record { text = T.faults text.new; disk = D.faults disk.new; landing = L.faults landing.new; sink = S.faults out.new } }) }
     ensures other { D.tells → (D.state disk.new).now.right ≡ (D.state disk.old).now.right }
     ensures present { L.tells → L.present landing.new ≡ L.present landing.old }
     ensures ever { L.tells → L.ever landing.new ≡ L.ever landing.old }
+    ensures amount { T.tells → length (T.left text.old) ≤ length (T.left text.new) + text_limit }
     ensures own { IsOfCommands result }
+    ensures text_fault { result ≡ Status.Text → Rose (T.faults text.old) (T.faults text.new) }
     ensures disk_fault { result ≡ Status.Disk → Rose (D.faults disk.old) (D.faults disk.new) }
     ensures sink_fault { result ≡ Status.Sink → Rose (S.faults out.old) (S.faults out.new) }
 {
+    let mut known = None;
     for command in commands {
-        let answer = execute(alloc, *command, disk, landing, out);
+        let answer = execute(alloc, *command, text, &mut known, disk, landing, out);
         if answer != Status::Ok {
             return answer;
         }
@@ -91,6 +174,19 @@ fn execute_all<D: Disk, L: Landing, S: Sink>(
 }
 
 /// Does what the words ask for, and answers how it ended.
+///
+/// The words are three paths that aren't empty (the pipeline's text, the store, the landing root), of which the
+/// devices are the caller's, and then one or more commands with the word `then` between two of them. `validate`
+/// prints nothing where the text reads. `update` takes what is new in the folder into the store; it is built for one
+/// statement, `CREATE OR REFRESH STREAMING TABLE t AS SELECT a FROM STREAM read_files('in', format => 'json', schema
+/// => 'a BIGINT')`, however it is spelled (Databricks SQL reference, CREATE STREAMING TABLE).
+///
+/// All words are judged first: where they are of no form the answer is Usage. Commands run in order, and the first
+/// answer other than Ok ends the run. The text is read once, by the first command, and not past the byte with which
+/// it is too long. A text that can't be read is answered by Text, one that has no reading or not the one that an
+/// update is built for by Pipeline, a store's file that is none or has no room by Store, a landing file that became
+/// shorter or a landing that failed by Stopped. Disk and Sink say that the store's file or the output failed, Memory
+/// that memory ran out.
 pub fn run<D: Disk, L: Landing, T: Source, S: Sink>(
     alloc: Global,
     words: &[String],
@@ -100,9 +196,9 @@ pub fn run<D: Disk, L: Landing, T: Source, S: Sink>(
     out: &mut S,
 ) -> Status
     // Over devices that tell: what was stored, printed and answered.
-    ensures ran { T.tells → D.tells → L.tells → S.tells → Ran (commands_of (map string_bytes words.now)) (T.left text.old) (Rose (T.faults text.old) (T.faults text.new)) (record { room = D.room disk.old; landing = L.present landing.old }) result
-        (record { file = (D.state disk.old).now.left; printed = S.written out.old; faults = record { disk = D.faults disk.old; landing = L.faults landing.old; sink = S.faults out.old } })
-        (record { file = (D.state disk.new).now.left; printed = S.written out.new; faults = record { disk = D.faults disk.new; landing = L.faults landing.new; sink = S.faults out.new } }) }
+    ensures ran { T.tells → D.tells → L.tells → S.tells → Ran (commands_of (map string_bytes words.now)) (record { text = T.left text.old; room = D.room disk.old; landing = L.present landing.old }) result
+        (record { file = (D.state disk.old).now.left; printed = S.written out.old; faults = record { text = T.faults text.old; disk = D.faults disk.old; landing = L.faults landing.old; sink = S.faults out.old } })
+        (record { file = (D.state disk.new).now.left; printed = S.written out.new; faults = record { text = T.faults text.new; disk = D.faults disk.new; landing = L.faults landing.new; sink = S.faults out.new } }) }
 
     // What a run leaves alone, and how much it reads.
     ensures other { D.tells → (D.state disk.new).now.right ≡ (D.state disk.old).now.right }
@@ -117,18 +213,9 @@ pub fn run<D: Disk, L: Landing, T: Source, S: Sink>(
     ensures disk_fault { result ≡ Status.Disk → Rose (D.faults disk.old) (D.faults disk.new) }
     ensures sink_fault { result ≡ Status.Sink → Rose (S.faults out.old) (S.faults out.new) }
 {
-    let commands = match commands(alloc, words) {
-        Ok(Some(commands)) => commands,
-        Ok(None) => return tell(alloc, out, &Outcome::Usage),
-        Err(_) => return Status::Memory,
-    };
-    let text = match read_text(alloc, text) {
-        Ok(text) => text,
-        Err(Fault::Failed) => return tell(alloc, out, &Outcome::TextFailed),
-        Err(Fault::Memory) => return Status::Memory,
-    };
-    if !accepts(text.as_slice()) {
-        return tell(alloc, out, &Outcome::NotSupported);
+    match commands(alloc, words) {
+        Ok(Some(commands)) => execute_all(alloc, commands.as_slice(), text, disk, landing, out),
+        Ok(None) => tell(alloc, out, &Outcome::Usage),
+        Err(_) => Status::Memory,
     }
-    execute_all(alloc, commands.as_slice(), disk, landing, out)
 }

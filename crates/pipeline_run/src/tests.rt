@@ -206,7 +206,7 @@ const REFUSALS: [Refusal; 6] = [
     },
     Refusal {
         words: UPDATE,
-        text: b"SELECT 1",
+        text: b"CREATE STREAMING TABLE t",
         left: b"",
         room: 64,
         status: Status::Pipeline,

@@ -9,8 +9,8 @@ use crate::outcome::Outcome;
 use crate::pipeline::Fault;
 use disk_model::{Disk, Failed, Side};
 use landing_core::{Fresh, Landing, LineEnd, ListEnd, fresh_lines, is_same_places};
-use std::alloc::{AllocError, Global};
 use plain_store::{Store, read, spell};
+use std::alloc::{AllocError, Global};
 use value_core::{Format, ListOf};
 
 /// The folder that the pipeline reads.

@@ -1,5 +1,7 @@
-use Rattle.pipeline_run.proofs.EndLemmas.{ok_where_nothing_is_refused}
+use Rattle.pipeline_run.proofs.EndLemmas.{HasOneAnswer, ok_where_nothing_is_refused}
 use Rattle.pipeline_run.proofs.laws.an_update_succeeds_where_nothing_is_refused.Goals as goal
 
 pub returns : goal.returns
-returns c = ok_where_nothing_is_refused
+returns c =
+    let law : HasOneAnswer = record { one = c.a_text_has_one_answer.ensures.read; apart = c.a_text_has_one_answer.ensures.apart; refused = c.a_text_has_one_answer.ensures.refused } in
+    ok_where_nothing_is_refused law

@@ -1,22 +1,57 @@
-use Rattle.std.proofs.Common.{◌≡◌, ◌≢◌, true, false, get_or}
+use Rattle.std.proofs.Common.{rules, ◌≡◌, ◌≢◌, true, false, get_or}
 use Rattle.std.proofs.lemmas.List.{get_or_default}
-use Rattle.pipeline_run.specs.declared.command.Command.TheVariants.{Update}
+use Rattle.pipeline_run.specs.declared.command.Command.TheVariants.{Validate}
 use Rattle.pipeline_run.specs.declared.outcome.Status.TheVariants as status
 use Rattle.pipeline_run.specs.Run.{Around, Standing}
-use Rattle.pipeline_run.proofs.RunLemmas.{stops}
+use Rattle.pipeline_run.proofs.RunLemmas.{goes_on, stops, is_ok_of}
 use Rattle.pipeline_run.proofs.program.execute_all.Goals as goal
 
 pub returns-then-ne-clause-runs : goal.returns-then-ne-clause-runs
-returns-then-ne-clause-runs g c disk landing sink =
+returns-then-ne-clause-runs g c text disk landing sink =
+    let t = g.T.Source in
     let d = g.D.Disk in
     let f = g.L.Landing in
     let s = g.S.Sink in
-    let around : Around = record { room = d.room c.args.disk.now; landing = f.present c.args.landing.now } in
-    let start : Standing = record { file = (d.state c.args.disk.now).now.left; printed = s.written c.args.out.now; faults = record { disk = d.faults c.args.disk.now; landing = f.faults c.args.landing.now; sink = s.faults c.args.out.now } } in
-    let here : Standing = record { file = (d.state c.loop-command.disk).now.left; printed = s.written c.loop-command.out; faults = record { disk = d.faults c.loop-command.disk; landing = f.faults c.loop-command.landing; sink = s.faults c.loop-command.out } } in
-    let mid : Standing = record { file = (d.state c.execute-answer.new.disk).now.left; printed = s.written c.execute-answer.new.out; faults = record { disk = d.faults c.execute-answer.new.disk; landing = f.faults c.execute-answer.new.landing; sink = s.faults c.execute-answer.new.out } } in
+    let around : Around = record { text = t.left c.args.text.now; room = d.room c.args.disk.now; landing = f.present c.args.landing.now } in
+    let start : Standing = record { file = (d.state c.args.disk.now).now.left; printed = s.written c.args.out.now; faults = record { text = t.faults c.args.text.now; disk = d.faults c.args.disk.now; landing = f.faults c.args.landing.now; sink = s.faults c.args.out.now } } in
+    let here : Standing = record { file = (d.state c.loop-command.disk).now.left; printed = s.written c.loop-command.out; faults = record { text = t.faults c.loop-command.text; disk = d.faults c.loop-command.disk; landing = f.faults c.loop-command.landing; sink = s.faults c.loop-command.out } } in
+    let mid : Standing = record { file = (d.state c.execute-answer.new.disk).now.left; printed = s.written c.execute-answer.new.out; faults = record { text = t.faults c.execute-answer.new.text; disk = d.faults c.execute-answer.new.disk; landing = f.faults c.execute-answer.new.landing; sink = s.faults c.execute-answer.new.out } } in
     let before = c.loop-command.invariant in
-    let executes = rw (before.room, before.present landing) at (c.execute-answer.ensures.executes disk landing sink) in
+    let executes = rw (before.room, before.present landing) at (c.execute-answer.ensures.executes text disk landing sink (t.left c.args.text.now) (before.knows text)) in
     let failed : c.execute-answer.result ≢ status.Ok = λ e. (let same : true ≡ false = rw e at c.if-ne.ensures in cc) in
-    let command = get_or c.args.commands.now c.loop-command.command-index Update in
-    stops around c.args.commands.now c.loop-command.command-index command start here mid c.execute-answer.result c.loop-command-test.true (get_or_default c.args.commands.now c.loop-command.command-index Update command c.loop-command-test.true) executes failed (before.runs disk landing sink)
+    let command = get_or c.args.commands.now c.loop-command.command-index Validate in
+    stops around c.args.commands.now c.loop-command.command-index command start here mid c.execute-answer.result c.loop-command-test.true (get_or_default c.args.commands.now c.loop-command.command-index Validate command c.loop-command-test.true) executes failed (before.runs text disk landing sink)
+
+pub returns-then-ne-clause-amount : goal.returns-then-ne-clause-amount
+returns-then-ne-clause-amount g c text =
+    c.execute-answer.ensures.amount text (g.T.Source.left c.args.text.now) (c.loop-command.invariant.knows text) (c.loop-command.invariant.amount text)
+
+pub loop-command-preserved : goal.loop-command-preserved
+loop-command-preserved g c =
+    let t = g.T.Source in
+    let d = g.D.Disk in
+    let f = g.L.Landing in
+    let s = g.S.Sink in
+    let whole = t.left c.args.text.now in
+    let around : Around = record { text = t.left c.args.text.now; room = d.room c.args.disk.now; landing = f.present c.args.landing.now } in
+    let start : Standing = record { file = (d.state c.args.disk.now).now.left; printed = s.written c.args.out.now; faults = record { text = t.faults c.args.text.now; disk = d.faults c.args.disk.now; landing = f.faults c.args.landing.now; sink = s.faults c.args.out.now } } in
+    let here : Standing = record { file = (d.state c.loop-command.disk).now.left; printed = s.written c.loop-command.out; faults = record { text = t.faults c.loop-command.text; disk = d.faults c.loop-command.disk; landing = f.faults c.loop-command.landing; sink = s.faults c.loop-command.out } } in
+    let mid : Standing = record { file = (d.state c.execute-answer.new.disk).now.left; printed = s.written c.execute-answer.new.out; faults = record { text = t.faults c.execute-answer.new.text; disk = d.faults c.execute-answer.new.disk; landing = f.faults c.execute-answer.new.landing; sink = s.faults c.execute-answer.new.out } } in
+    let before = c.loop-command.invariant in
+    let facts = c.execute-answer.ensures in
+    let ok : c.execute-answer.result ≡ status.Ok = is_ok_of (c.execute-answer.result) c.if-ne.ensures in
+    let command = get_or c.args.commands.now c.loop-command.command-index Validate in
+    record {
+      runs = λ text disk landing sink.
+          goes_on around c.args.commands.now c.loop-command.command-index command start here mid c.execute-answer.result c.loop-command-test.true (get_or_default c.args.commands.now c.loop-command.command-index Validate command c.loop-command-test.true)
+          (rw (before.room, before.present landing) at (facts.executes text disk landing sink whole (before.knows text))) ok (before.runs text disk landing sink);
+      knows = λ text. facts.knows text whole (before.knows text) ok;
+      amount = λ text. facts.amount text whole (before.knows text) (before.amount text);
+      room = search rules;
+      other = search rules;
+      present = search rules;
+      ever = search rules;
+      text_later = search rules;
+      disk_later = search rules;
+      sink_later = search rules;
+    }

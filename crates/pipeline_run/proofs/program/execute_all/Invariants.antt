@@ -1,22 +1,27 @@
-use Rattle.std.proofs.Common.{◌≡◌, ◌≤◌}
+use Rattle.std.proofs.Common.{◌≡◌, ◌≤◌, ◌+◌, length}
+use Rattle.pipeline_run.specs.Pipeline.{text_limit, Knows}
 use Rattle.pipeline_run.specs.Run.{Around, Standing}
 use Rattle.pipeline_run.proofs.RunLemmas.{Continues}
 use Rattle.pipeline_run.proofs.program.execute_all.Given as goal
 
 abbrev pub invariant-loop-command : goal.invariant-loop-command
 invariant-loop-command g l =
+    let t = g.T.Source in
     let d = g.D.Disk in
     let f = g.L.Landing in
     let s = g.S.Sink in
-    let around : Around = record { room = d.room l.initial.disk; landing = f.present l.initial.landing } in
-    let start : Standing = record { file = (d.state l.initial.disk).now.left; printed = s.written l.initial.out; faults = record { disk = d.faults l.initial.disk; landing = f.faults l.initial.landing; sink = s.faults l.initial.out } } in
-    let here : Standing = record { file = (d.state l.disk).now.left; printed = s.written l.out; faults = record { disk = d.faults l.disk; landing = f.faults l.landing; sink = s.faults l.out } } in
+    let around : Around = record { text = t.left l.initial.text; room = d.room l.initial.disk; landing = f.present l.initial.landing } in
+    let start : Standing = record { file = (d.state l.initial.disk).now.left; printed = s.written l.initial.out; faults = record { text = t.faults l.initial.text; disk = d.faults l.initial.disk; landing = f.faults l.initial.landing; sink = s.faults l.initial.out } } in
+    let here : Standing = record { file = (d.state l.disk).now.left; printed = s.written l.out; faults = record { text = t.faults l.text; disk = d.faults l.disk; landing = f.faults l.landing; sink = s.faults l.out } } in
     record {
-      runs : d.tells → f.tells → s.tells → Continues around l.commands l.command-index start here;
+      runs : t.tells → d.tells → f.tells → s.tells → Continues around l.commands l.command-index start here;
+      knows : t.tells → Knows (t.left l.initial.text) l.known (t.left l.text);
+      amount : t.tells → length (t.left l.initial.text) ≤ length (t.left l.text) + text_limit;
       room : d.room l.disk ≡ d.room l.initial.disk;
       other : d.tells → (d.state l.disk).now.right ≡ (d.state l.initial.disk).now.right;
       present : f.tells → f.present l.landing ≡ f.present l.initial.landing;
       ever : f.tells → f.ever l.landing ≡ f.ever l.initial.landing;
+      text_later : t.faults l.initial.text ≤ t.faults l.text;
       disk_later : d.faults l.initial.disk ≤ d.faults l.disk;
       sink_later : s.faults l.initial.out ≤ s.faults l.out;
     }
