@@ -23,3 +23,5 @@ pub use program::run;
 
 #[cfg(test)]
 mod tests;
+#[cfg(test)]
+mod word_tests;
