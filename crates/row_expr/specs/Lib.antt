@@ -1,2 +1,4 @@
+pub mod Columns
 pub mod Eval
 pub mod Kinds
+pub mod Typing

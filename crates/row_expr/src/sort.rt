@@ -26,7 +26,7 @@ fn is_same_kind(left: Kind, right: Kind) -> bool
     )
 }
 
-fn join(left: Sort, right: Sort) -> Sort
+pub fn join(left: Sort, right: Sort) -> Sort
     ensures { result ≡ spec.join left right }
 {
     match (left, right) {
@@ -43,7 +43,7 @@ fn join(left: Sort, right: Sort) -> Sort
     }
 }
 
-fn number(operand: Sort) -> Sort
+pub fn number(operand: Sort) -> Sort
     ensures { result ≡ spec.number operand }
 {
     match operand {
@@ -53,7 +53,7 @@ fn number(operand: Sort) -> Sort
     }
 }
 
-fn text(operand: Sort) -> Sort
+pub fn text(operand: Sort) -> Sort
     ensures { result ≡ spec.text operand }
 {
     match operand {
@@ -63,7 +63,7 @@ fn text(operand: Sort) -> Sort
 }
 
 /// That sort where the wanted one is a kind.
-fn where_of(wanted: Sort, gives: Sort) -> Sort
+pub fn where_of(wanted: Sort, gives: Sort) -> Sort
     ensures { result ≡ spec.where_of wanted gives }
 {
     match wanted {
@@ -73,7 +73,7 @@ fn where_of(wanted: Sort, gives: Sort) -> Sort
 }
 
 /// That sort where the operand is well formed.
-fn where_formed(operand: Sort, gives: Sort) -> Sort
+pub fn where_formed(operand: Sort, gives: Sort) -> Sort
     ensures { result ≡ spec.where_formed operand gives }
 {
     match operand {
@@ -82,13 +82,13 @@ fn where_formed(operand: Sort, gives: Sort) -> Sort
     }
 }
 
-fn is_condition(operand: Sort) -> bool
+pub fn is_condition(operand: Sort) -> bool
     ensures { result ≡ spec.is_condition operand }
 {
     matches!(operand, Sort::Of(Kind::Bool) | Sort::Any)
 }
 
-fn truth(left: Sort, right: Sort) -> Sort
+pub fn truth(left: Sort, right: Sort) -> Sort
     ensures { result ≡ spec.truth left right }
 {
     if is_condition(left) && is_condition(right) {
@@ -107,7 +107,7 @@ fn widened(operand: Sort) -> Sort
     }
 }
 
-fn calculated(op: Arithmetic, operands: Sort) -> Sort
+pub fn calculated(op: Arithmetic, operands: Sort) -> Sort
     ensures { result ≡ spec.calculated op operands }
 {
     match op {
@@ -116,7 +116,7 @@ fn calculated(op: Arithmetic, operands: Sort) -> Sort
     }
 }
 
-fn sort_of_value(value: &Value) -> Sort
+pub fn sort_of_value(value: &Value) -> Sort
     ensures { result ≡ spec.sort_of_value value.now }
 {
     match value {

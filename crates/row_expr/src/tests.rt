@@ -1,104 +1,327 @@
-use crate::{Arithmetic, Comparison, Expr, RowFault, eval};
+use crate::{RowFault, TypeEnd, eval, typed};
+use sql_tree::{SqlArm, SqlExpr, SqlOp, SqlType};
 use sqlite_items::{Boxed, Items};
 use std::alloc::{AllocError, Global};
 use std::test::Fail;
-use value_core::{Kind, ListOf, Row, Text, Value};
+use value_core::{Column, Kind, ListOf, Name, Row, Schema, Text, Value};
 
-fn value_of(alloc: Global, e: Expr) -> Result<Value, RowFault> {
+/// A written expression, or none for want of memory.
+type Tree = Result<SqlExpr, AllocError>;
+
+fn number(number: i64) -> Tree {
+    Ok(SqlExpr::Number(number))
+}
+
+fn truth(truth: bool) -> Tree {
+    Ok(SqlExpr::Bool(truth))
+}
+
+fn null() -> Tree {
+    Ok(SqlExpr::Null)
+}
+
+fn text(alloc: Global, text: &str) -> Tree {
+    Ok(SqlExpr::Str(Text::new(alloc, text)?))
+}
+
+fn name(alloc: Global, name: &str) -> Tree {
+    Ok(SqlExpr::Name(Name::new(alloc, name)?))
+}
+
+fn negative(alloc: Global, operand: Tree) -> Tree {
+    Ok(SqlExpr::Neg(Boxed::new(alloc, operand?)?))
+}
+
+fn of(alloc: Global, left: Tree, op: SqlOp, right: Tree) -> Tree {
+    let left = Boxed::new(alloc, left?)?;
+    let right = Boxed::new(alloc, right?)?;
+    Ok(SqlExpr::Binary { op, left, right })
+}
+
+fn is_null(alloc: Global, operand: Tree) -> Tree {
+    let expr = Boxed::new(alloc, operand?)?;
+    Ok(SqlExpr::IsNull {
+        expr,
+        negated: false,
+    })
+}
+
+fn cast(alloc: Global, operand: Tree, kind: SqlType, trying: bool) -> Tree {
+    let expr = Boxed::new(alloc, operand?)?;
+    Ok(SqlExpr::Cast { expr, kind, trying })
+}
+
+fn list_of(alloc: Global, first: Tree, second: Tree) -> Result<Items<SqlExpr>, AllocError> {
+    let mut list = Items::new(alloc);
+    list.push(first?)?;
+    list.push(second?)?;
+    Ok(list)
+}
+
+fn among(alloc: Global, operand: Tree, first: Tree, second: Tree) -> Tree {
+    let expr = Boxed::new(alloc, operand?)?;
+    let list = list_of(alloc, first, second)?;
+    Ok(SqlExpr::InList {
+        expr,
+        list,
+        negated: false,
+    })
+}
+
+fn coalesce(alloc: Global, first: Tree, second: Tree) -> Tree {
+    Ok(SqlExpr::Coalesce(list_of(alloc, first, second)?))
+}
+
+/// `CASE WHEN when THEN gives ELSE other END`
+fn case(alloc: Global, when: Tree, gives: Tree, other: Tree) -> Tree {
+    let mut arms = Items::new(alloc);
+    arms.push(SqlArm {
+        when: when?,
+        then: gives?,
+    })?;
+    let other = Some(Boxed::new(alloc, other?)?);
+    Ok(SqlExpr::Case { arms, other })
+}
+
+/// The columns of `a BIGINT`.
+fn column_a(alloc: Global) -> Result<Schema, AllocError> {
+    let mut columns: Schema = ListOf::new(alloc);
+    let name = Name::new(alloc, "a")?;
+    columns.push(Column {
+        name,
+        kind: Kind::Big,
+    })?;
+    Ok(columns)
+}
+
+fn typed_value(alloc: Global, tree: Tree) -> Option<Result<Value, RowFault>> {
+    let tree = tree.ok()?;
+    let columns: Schema = ListOf::new(alloc);
     let row: Row = ListOf::new(alloc);
-    eval(alloc, &e, &row)
+    let expr = typed(alloc, &tree, &columns).ok()?;
+    Some(eval(alloc, &expr, &row))
 }
 
-fn calculated(
-    alloc: Global,
-    op: Arithmetic,
-    left: Value,
-    right: Value,
-) -> Result<Result<Value, RowFault>, AllocError> {
-    let left = Boxed::new(alloc, Expr::Literal(left))?;
-    let right = Boxed::new(alloc, Expr::Literal(right))?;
-    Ok(value_of(alloc, Expr::Arithmetic(op, left, right)))
+/// Whether an expression without names is typed, and has that value.
+fn gives(alloc: Global, tree: Tree, wanted: Value) -> bool {
+    match typed_value(alloc, tree) {
+        Some(Ok(value)) => value == wanted,
+        _ => false,
+    }
 }
 
-fn text(alloc: Global, text: &str) -> Result<Expr, AllocError> {
-    Ok(Expr::Literal(Value::Str(Text::new(alloc, text)?)))
+fn faults(alloc: Global, tree: Tree, wanted: RowFault) -> bool {
+    match typed_value(alloc, tree) {
+        Some(Err(fault)) => fault == wanted,
+        _ => false,
+    }
 }
 
-fn cast(alloc: Global, from: &str, to: Kind) -> Result<Result<Value, RowFault>, AllocError> {
-    let operand = Boxed::new(alloc, text(alloc, from)?)?;
-    Ok(value_of(alloc, Expr::Cast(operand, to)))
+/// Whether an expression over `a` is typed, and is of that kind.
+fn is_of(alloc: Global, tree: Tree, wanted: Kind) -> bool {
+    match (tree, column_a(alloc)) {
+        (Ok(tree), Ok(columns)) => match typed(alloc, &tree, &columns) {
+            Ok(expr) => expr.kind() == Some(wanted),
+            Err(_) => false,
+        },
+        _ => false,
+    }
 }
 
-fn try_cast(alloc: Global, from: &str, to: Kind) -> Result<Result<Value, RowFault>, AllocError> {
-    let operand = Boxed::new(alloc, text(alloc, from)?)?;
-    Ok(value_of(alloc, Expr::TryCast(operand, to)))
+/// Whether the kinds of an expression over `a` don't meet.
+fn differs(alloc: Global, tree: Tree) -> bool {
+    match (tree, column_a(alloc)) {
+        (Ok(tree), Ok(columns)) => {
+            matches!(typed(alloc, &tree, &columns), Err(TypeEnd::TypeMismatch))
+        }
+        _ => false,
+    }
 }
 
-fn among_one_and_null(alloc: Global, number: i32) -> Result<Result<Value, RowFault>, AllocError> {
-    let mut elements = Items::new(alloc);
-    elements.push(Expr::Literal(Value::Int(1)))?;
-    elements.push(Expr::Literal(Value::Null))?;
-    let operand = Boxed::new(alloc, Expr::Literal(Value::Int(number)))?;
-    Ok(value_of(alloc, Expr::InList(operand, elements)))
+/// Whether that name is the first of an expression that isn't `a`.
+fn lacks(alloc: Global, tree: Tree, wanted: &str) -> bool {
+    match (tree, column_a(alloc)) {
+        (Ok(tree), Ok(columns)) => match typed(alloc, &tree, &columns) {
+            Err(TypeEnd::UnknownName { name }) => name.as_str() == wanted,
+            _ => false,
+        },
+        _ => false,
+    }
 }
 
 #[test]
-fn ints_are_calculated(rt: HostRuntime) -> Result<(), Fail> {
-    let alloc = rt.alloc();
-    let seven = || Value::Int(7);
-    let minus_seven = || Value::Int(-7);
-    let two = || Value::Int(2);
-    assert!(rt; calculated(alloc, Arithmetic::Div, seven(), two())? == Ok(Value::Big(3)));
-    assert!(rt; calculated(alloc, Arithmetic::Div, minus_seven(), two())? == Ok(Value::Big(-3)));
-    assert!(rt; calculated(alloc, Arithmetic::Rem, minus_seven(), two())? == Ok(Value::Int(-1)));
-    assert!(rt; calculated(alloc, Arithmetic::Add, Value::Null, two())? == Ok(Value::Null));
-    let most = Value::Int(i32::MAX);
+fn numbers_are_calculated(rt: HostRuntime) -> Result<(), Fail> {
+    let m = rt.alloc();
+    assert!(rt; gives(m, of(m, number(7), SqlOp::Div, number(2)), Value::Big(3)));
+    assert!(rt; gives(m, of(m, number(-7), SqlOp::Div, number(2)), Value::Big(-3)));
+    assert!(rt; gives(m, of(m, number(-7), SqlOp::Rem, number(2)), Value::Int(-1)));
     assert!(rt;
-        calculated(alloc, Arithmetic::Add, most, Value::Int(1))? == Err(RowFault::Overflow)
+        faults(
+            m,
+            of(m, number(1), SqlOp::Div, number(0)),
+            RowFault::ZeroDivisor
+        )
     );
     assert!(rt;
-        calculated(alloc, Arithmetic::Div, seven(), Value::Int(0))? == Err(RowFault::ZeroDivisor)
+        faults(
+            m,
+            of(m, number(1), SqlOp::Rem, number(0)),
+            RowFault::ZeroDivisor
+        )
     );
+    assert!(rt; gives(m, of(m, null(), SqlOp::Sub, number(1)), Value::Null));
+    assert!(rt; gives(m, of(m, number(1), SqlOp::Mul, null()), Value::Null));
     Ok(())
 }
 
 #[test]
-fn bigints_are_calculated(rt: HostRuntime) -> Result<(), Fail> {
-    let alloc = rt.alloc();
-    let large = Value::Big(2147483648);
+fn numbers_have_edges(rt: HostRuntime) -> Result<(), Fail> {
+    let m = rt.alloc();
+    let most = 2147483647;
     assert!(rt;
-        calculated(alloc, Arithmetic::Add, large, Value::Big(1))? == Ok(Value::Big(2147483649))
+        faults(
+            m,
+            of(m, number(most), SqlOp::Add, number(1)),
+            RowFault::Overflow
+        )
     );
-    let least = Value::Big(i64::MIN);
     assert!(rt;
-        calculated(alloc, Arithmetic::Div, least, Value::Big(-1))? == Err(RowFault::Overflow)
+        gives(
+            m,
+            of(m, number(most + 1), SqlOp::Add, number(1)),
+            Value::Big(2147483649)
+        )
     );
-    let least = Value::Big(i64::MIN);
-    assert!(rt; calculated(alloc, Arithmetic::Rem, least, Value::Big(-1))? == Ok(Value::Big(0)));
+    assert!(rt; faults(m, negative(m, number(-2147483648)), RowFault::Overflow));
+    assert!(rt; gives(m, negative(m, number(-2147483649)), Value::Big(2147483649)));
+    assert!(rt;
+        faults(
+            m,
+            of(m, number(i64::MIN), SqlOp::Div, number(-1)),
+            RowFault::Overflow
+        )
+    );
+    assert!(rt;
+        gives(
+            m,
+            of(m, number(i64::MIN), SqlOp::Rem, number(-1)),
+            Value::Big(0)
+        )
+    );
+    assert!(rt;
+        faults(
+            m,
+            of(m, number(i64::MAX), SqlOp::Add, number(1)),
+            RowFault::Overflow
+        )
+    );
     Ok(())
 }
 
 #[test]
 fn texts_are_cast(rt: HostRuntime) -> Result<(), Fail> {
-    let alloc = rt.alloc();
-    assert!(rt; cast(alloc, " 12 ", Kind::Int)? == Ok(Value::Int(12)));
-    assert!(rt; cast(alloc, "12x", Kind::Int)? == Err(RowFault::BadCast));
-    assert!(rt; try_cast(alloc, "12x", Kind::Int)? == Ok(Value::Null));
-    assert!(rt; cast(alloc, "Yes", Kind::Bool)? == Ok(Value::Bool(true)));
-    assert!(rt; try_cast(alloc, "on", Kind::Bool)? == Ok(Value::Null));
-    assert!(rt; cast(alloc, "１２", Kind::Int)? == Err(RowFault::BadCast));
+    let m = rt.alloc();
+    assert!(rt;
+        gives(
+            m,
+            cast(m, text(m, " 12 "), SqlType::Int, false),
+            Value::Int(12)
+        )
+    );
+    assert!(rt;
+        faults(
+            m,
+            cast(m, text(m, "12x"), SqlType::Int, false),
+            RowFault::BadCast
+        )
+    );
+    assert!(rt; gives(m, cast(m, text(m, "12x"), SqlType::Int, true), Value::Null));
+    assert!(rt;
+        gives(
+            m,
+            cast(m, text(m, "Yes"), SqlType::Bool, false),
+            Value::Bool(true)
+        )
+    );
+    assert!(rt; gives(m, cast(m, text(m, "on"), SqlType::Bool, true), Value::Null));
+    assert!(rt;
+        faults(
+            m,
+            cast(m, text(m, "１２"), SqlType::Int, false),
+            RowFault::BadCast
+        )
+    );
     Ok(())
 }
 
 #[test]
 fn truth_has_three_values(rt: HostRuntime) -> Result<(), Fail> {
-    let alloc = rt.alloc();
-    assert!(rt; among_one_and_null(alloc, 2)? == Ok(Value::Null));
-    assert!(rt; among_one_and_null(alloc, 1)? == Ok(Value::Bool(true)));
-    let left = Boxed::new(alloc, text(alloc, "é")?)?;
-    let right = Boxed::new(alloc, text(alloc, "z")?)?;
-    let greater = Expr::Compare(Comparison::Gt, left, right);
-    assert!(rt; greater.kind() == Some(Kind::Bool));
-    assert!(rt; value_of(alloc, greater) == Ok(Value::Bool(true)));
+    let m = rt.alloc();
+    let fault = of(m, number(1), SqlOp::Div, number(0));
+    let not_reached = of(m, fault, SqlOp::Eq, number(1));
+    assert!(rt;
+        gives(
+            m,
+            of(m, truth(false), SqlOp::And, not_reached),
+            Value::Bool(false)
+        )
+    );
+    let unknown = cast(m, null(), SqlType::Bool, false);
+    assert!(rt;
+        gives(
+            m,
+            of(m, unknown, SqlOp::And, truth(false)),
+            Value::Bool(false)
+        )
+    );
+    assert!(rt; gives(m, of(m, null(), SqlOp::Or, truth(false)), Value::Null));
+    assert!(rt; gives(m, among(m, number(2), number(1), null()), Value::Null));
+    assert!(rt; gives(m, among(m, number(1), number(1), null()), Value::Bool(true)));
+    assert!(rt;
+        gives(
+            m,
+            of(m, text(m, "é"), SqlOp::Gt, text(m, "z")),
+            Value::Bool(true)
+        )
+    );
+    assert!(rt; gives(m, is_null(m, text(m, "")), Value::Bool(false)));
+    Ok(())
+}
+
+#[test]
+fn operands_are_widened_to_their_join(rt: HostRuntime) -> Result<(), Fail> {
+    let m = rt.alloc();
+    assert!(rt; is_of(m, of(m, number(1), SqlOp::Add, number(1)), Kind::Int));
+    assert!(rt; is_of(m, of(m, number(1), SqlOp::Add, name(m, "A")), Kind::Big));
+    assert!(rt; is_of(m, of(m, number(1), SqlOp::Div, number(1)), Kind::Big));
+    assert!(rt; is_of(m, of(m, name(m, "a"), SqlOp::Lt, number(1)), Kind::Bool));
+    assert!(rt; is_of(m, of(m, null(), SqlOp::Concat, text(m, "b")), Kind::Str));
+    assert!(rt; is_of(m, case(m, null(), number(1), name(m, "a")), Kind::Big));
+    assert!(rt; is_of(m, coalesce(m, null(), number(1)), Kind::Int));
+    Ok(())
+}
+
+#[test]
+fn kinds_must_meet(rt: HostRuntime) -> Result<(), Fail> {
+    let m = rt.alloc();
+    assert!(rt; differs(m, of(m, null(), SqlOp::Add, null())));
+    assert!(rt; differs(m, of(m, text(m, "1"), SqlOp::Add, number(1))));
+    assert!(rt; differs(m, of(m, number(1), SqlOp::Concat, number(1))));
+    assert!(rt; differs(m, of(m, truth(true), SqlOp::And, number(1))));
+    assert!(rt; differs(m, among(m, null(), null(), null())));
+    assert!(rt; differs(m, case(m, truth(true), null(), null())));
+    assert!(rt; differs(m, coalesce(m, number(1), text(m, "1"))));
+    assert!(rt; differs(m, Ok(SqlExpr::CountAll)));
+    Ok(())
+}
+
+#[test]
+fn unknown_names_are_told_first(rt: HostRuntime) -> Result<(), Fail> {
+    let m = rt.alloc();
+    let mismatch = of(m, text(m, "1"), SqlOp::Add, number(1));
+    assert!(rt; lacks(m, of(m, mismatch, SqlOp::Eq, name(m, "b")), "b"));
+    assert!(rt; lacks(m, of(m, name(m, "c"), SqlOp::Eq, name(m, "b")), "c"));
+    assert!(rt; lacks(m, case(m, name(m, "a"), name(m, "B"), name(m, "c")), "B"));
+    assert!(rt; lacks(m, coalesce(m, name(m, "a"), name(m, "é")), "é"));
     Ok(())
 }
