@@ -6,81 +6,93 @@ use std::test::Fail;
 use value_core::{Column, Kind, ListOf, Name, Row, Schema, Text, Value};
 
 /// A written expression, or none for want of memory.
-type Tree = Result<SqlExpr, AllocError>;
+type Tree = Result<Boxed<SqlExpr>, AllocError>;
 
-fn number(number: i64) -> Tree {
-    Ok(SqlExpr::Number(number))
+fn number(alloc: Global, number: i64) -> Tree {
+    Boxed::new(alloc, SqlExpr::Number(number))
 }
 
-fn truth(truth: bool) -> Tree {
-    Ok(SqlExpr::Bool(truth))
+fn truth(alloc: Global, truth: bool) -> Tree {
+    Boxed::new(alloc, SqlExpr::Bool(truth))
 }
 
-fn null() -> Tree {
-    Ok(SqlExpr::Null)
+fn null(alloc: Global) -> Tree {
+    Boxed::new(alloc, SqlExpr::Null)
 }
 
 fn text(alloc: Global, text: &str) -> Tree {
-    Ok(SqlExpr::Str(Text::new(alloc, text)?))
+    let text = Text::new(alloc, text)?;
+    Boxed::new(alloc, SqlExpr::Str(text))
 }
 
 fn name(alloc: Global, name: &str) -> Tree {
-    Ok(SqlExpr::Name(Name::new(alloc, name)?))
+    let name = Name::new(alloc, name)?;
+    Boxed::new(alloc, SqlExpr::Name(name))
 }
 
 fn negative(alloc: Global, operand: Tree) -> Tree {
-    Ok(SqlExpr::Neg(Boxed::new(alloc, operand?)?))
+    Boxed::new(alloc, SqlExpr::Neg(operand?))
 }
 
 fn of(alloc: Global, left: Tree, op: SqlOp, right: Tree) -> Tree {
-    let left = Boxed::new(alloc, left?)?;
-    let right = Boxed::new(alloc, right?)?;
-    Ok(SqlExpr::Binary { op, left, right })
+    let left = left?;
+    let right = right?;
+    Boxed::new(alloc, SqlExpr::Binary { op, left, right })
 }
 
 fn is_null(alloc: Global, operand: Tree) -> Tree {
-    let expr = Boxed::new(alloc, operand?)?;
-    Ok(SqlExpr::IsNull {
-        expr,
-        negated: false,
-    })
+    let expr = operand?;
+    let negated = false;
+    Boxed::new(alloc, SqlExpr::IsNull { expr, negated })
 }
 
 fn cast(alloc: Global, operand: Tree, kind: SqlType, trying: bool) -> Tree {
-    let expr = Boxed::new(alloc, operand?)?;
-    Ok(SqlExpr::Cast { expr, kind, trying })
+    let expr = operand?;
+    Boxed::new(alloc, SqlExpr::Cast { expr, kind, trying })
 }
 
 fn list_of(alloc: Global, first: Tree, second: Tree) -> Result<Items<SqlExpr>, AllocError> {
     let mut list = Items::new(alloc);
-    list.push(first?)?;
-    list.push(second?)?;
+    list.push(first?.into_inner())?;
+    list.push(second?.into_inner())?;
     Ok(list)
 }
 
 fn among(alloc: Global, operand: Tree, first: Tree, second: Tree) -> Tree {
-    let expr = Boxed::new(alloc, operand?)?;
+    let expr = operand?;
     let list = list_of(alloc, first, second)?;
-    Ok(SqlExpr::InList {
-        expr,
-        list,
-        negated: false,
-    })
+    let negated = false;
+    Boxed::new(
+        alloc,
+        SqlExpr::InList {
+            expr,
+            list,
+            negated,
+        },
+    )
 }
 
 fn coalesce(alloc: Global, first: Tree, second: Tree) -> Tree {
-    Ok(SqlExpr::Coalesce(list_of(alloc, first, second)?))
+    let list = list_of(alloc, first, second)?;
+    Boxed::new(alloc, SqlExpr::Coalesce(list))
+}
+
+fn arm(alloc: Global, when: Tree, gives: Tree) -> Result<Items<SqlArm>, AllocError> {
+    let when = when?;
+    let gives = gives?;
+    let mut arms = Items::new(alloc);
+    arms.push(SqlArm {
+        when: when.into_inner(),
+        then: gives.into_inner(),
+    })?;
+    Ok(arms)
 }
 
 /// `CASE WHEN when THEN gives ELSE other END`
 fn case(alloc: Global, when: Tree, gives: Tree, other: Tree) -> Tree {
-    let mut arms = Items::new(alloc);
-    arms.push(SqlArm {
-        when: when?,
-        then: gives?,
-    })?;
-    let other = Some(Boxed::new(alloc, other?)?);
-    Ok(SqlExpr::Case { arms, other })
+    let arms = arm(alloc, when, gives)?;
+    let other = Some(other?);
+    Boxed::new(alloc, SqlExpr::Case { arms, other })
 }
 
 /// The columns of `a BIGINT`.
@@ -98,7 +110,7 @@ fn typed_value(alloc: Global, tree: Tree) -> Option<Result<Value, RowFault>> {
     let tree = tree.ok()?;
     let columns: Schema = ListOf::new(alloc);
     let row: Row = ListOf::new(alloc);
-    let expr = typed(alloc, &tree, &columns).ok()?;
+    let expr = typed(alloc, tree.get(), &columns).ok()?;
     Some(eval(alloc, &expr, &row))
 }
 
@@ -120,7 +132,7 @@ fn faults(alloc: Global, tree: Tree, wanted: RowFault) -> bool {
 /// Whether an expression over `a` is typed, and is of that kind.
 fn is_of(alloc: Global, tree: Tree, wanted: Kind) -> bool {
     match (tree, column_a(alloc)) {
-        (Ok(tree), Ok(columns)) => match typed(alloc, &tree, &columns) {
+        (Ok(tree), Ok(columns)) => match typed(alloc, tree.get(), &columns) {
             Ok(expr) => expr.kind() == Some(wanted),
             Err(_) => false,
         },
@@ -132,7 +144,10 @@ fn is_of(alloc: Global, tree: Tree, wanted: Kind) -> bool {
 fn differs(alloc: Global, tree: Tree) -> bool {
     match (tree, column_a(alloc)) {
         (Ok(tree), Ok(columns)) => {
-            matches!(typed(alloc, &tree, &columns), Err(TypeEnd::TypeMismatch))
+            matches!(
+                typed(alloc, tree.get(), &columns),
+                Err(TypeEnd::TypeMismatch)
+            )
         }
         _ => false,
     }
@@ -141,7 +156,7 @@ fn differs(alloc: Global, tree: Tree) -> bool {
 /// Whether that name is the first of an expression that isn't `a`.
 fn lacks(alloc: Global, tree: Tree, wanted: &str) -> bool {
     match (tree, column_a(alloc)) {
-        (Ok(tree), Ok(columns)) => match typed(alloc, &tree, &columns) {
+        (Ok(tree), Ok(columns)) => match typed(alloc, tree.get(), &columns) {
             Err(TypeEnd::UnknownName { name }) => name.as_str() == wanted,
             _ => false,
         },
@@ -152,25 +167,43 @@ fn lacks(alloc: Global, tree: Tree, wanted: &str) -> bool {
 #[test]
 fn numbers_are_calculated(rt: HostRuntime) -> Result<(), Fail> {
     let m = rt.alloc();
-    assert!(rt; gives(m, of(m, number(7), SqlOp::Div, number(2)), Value::Big(3)));
-    assert!(rt; gives(m, of(m, number(-7), SqlOp::Div, number(2)), Value::Big(-3)));
-    assert!(rt; gives(m, of(m, number(-7), SqlOp::Rem, number(2)), Value::Int(-1)));
+    assert!(rt;
+        gives(
+            m,
+            of(m, number(m, 7), SqlOp::Div, number(m, 2)),
+            Value::Big(3)
+        )
+    );
+    assert!(rt;
+        gives(
+            m,
+            of(m, number(m, -7), SqlOp::Div, number(m, 2)),
+            Value::Big(-3)
+        )
+    );
+    assert!(rt;
+        gives(
+            m,
+            of(m, number(m, -7), SqlOp::Rem, number(m, 2)),
+            Value::Int(-1)
+        )
+    );
     assert!(rt;
         faults(
             m,
-            of(m, number(1), SqlOp::Div, number(0)),
+            of(m, number(m, 1), SqlOp::Div, number(m, 0)),
             RowFault::ZeroDivisor
         )
     );
     assert!(rt;
         faults(
             m,
-            of(m, number(1), SqlOp::Rem, number(0)),
+            of(m, number(m, 1), SqlOp::Rem, number(m, 0)),
             RowFault::ZeroDivisor
         )
     );
-    assert!(rt; gives(m, of(m, null(), SqlOp::Sub, number(1)), Value::Null));
-    assert!(rt; gives(m, of(m, number(1), SqlOp::Mul, null()), Value::Null));
+    assert!(rt; gives(m, of(m, null(m), SqlOp::Sub, number(m, 1)), Value::Null));
+    assert!(rt; gives(m, of(m, number(m, 1), SqlOp::Mul, null(m)), Value::Null));
     Ok(())
 }
 
@@ -181,37 +214,43 @@ fn numbers_have_edges(rt: HostRuntime) -> Result<(), Fail> {
     assert!(rt;
         faults(
             m,
-            of(m, number(most), SqlOp::Add, number(1)),
+            of(m, number(m, most), SqlOp::Add, number(m, 1)),
             RowFault::Overflow
         )
     );
     assert!(rt;
         gives(
             m,
-            of(m, number(most + 1), SqlOp::Add, number(1)),
+            of(m, number(m, most + 1), SqlOp::Add, number(m, 1)),
             Value::Big(2147483649)
         )
     );
-    assert!(rt; faults(m, negative(m, number(-2147483648)), RowFault::Overflow));
-    assert!(rt; gives(m, negative(m, number(-2147483649)), Value::Big(2147483649)));
+    assert!(rt; faults(m, negative(m, number(m, -2147483648)), RowFault::Overflow));
+    assert!(rt;
+        gives(
+            m,
+            negative(m, number(m, -2147483649)),
+            Value::Big(2147483649)
+        )
+    );
     assert!(rt;
         faults(
             m,
-            of(m, number(i64::MIN), SqlOp::Div, number(-1)),
+            of(m, number(m, i64::MIN), SqlOp::Div, number(m, -1)),
             RowFault::Overflow
         )
     );
     assert!(rt;
         gives(
             m,
-            of(m, number(i64::MIN), SqlOp::Rem, number(-1)),
+            of(m, number(m, i64::MIN), SqlOp::Rem, number(m, -1)),
             Value::Big(0)
         )
     );
     assert!(rt;
         faults(
             m,
-            of(m, number(i64::MAX), SqlOp::Add, number(1)),
+            of(m, number(m, i64::MAX), SqlOp::Add, number(m, 1)),
             RowFault::Overflow
         )
     );
@@ -257,26 +296,38 @@ fn texts_are_cast(rt: HostRuntime) -> Result<(), Fail> {
 #[test]
 fn truth_has_three_values(rt: HostRuntime) -> Result<(), Fail> {
     let m = rt.alloc();
-    let fault = of(m, number(1), SqlOp::Div, number(0));
-    let not_reached = of(m, fault, SqlOp::Eq, number(1));
+    let fault = of(m, number(m, 1), SqlOp::Div, number(m, 0));
+    let not_reached = of(m, fault, SqlOp::Eq, number(m, 1));
     assert!(rt;
         gives(
             m,
-            of(m, truth(false), SqlOp::And, not_reached),
+            of(m, truth(m, false), SqlOp::And, not_reached),
             Value::Bool(false)
         )
     );
-    let unknown = cast(m, null(), SqlType::Bool, false);
+    let unknown = cast(m, null(m), SqlType::Bool, false);
     assert!(rt;
         gives(
             m,
-            of(m, unknown, SqlOp::And, truth(false)),
+            of(m, unknown, SqlOp::And, truth(m, false)),
             Value::Bool(false)
         )
     );
-    assert!(rt; gives(m, of(m, null(), SqlOp::Or, truth(false)), Value::Null));
-    assert!(rt; gives(m, among(m, number(2), number(1), null()), Value::Null));
-    assert!(rt; gives(m, among(m, number(1), number(1), null()), Value::Bool(true)));
+    assert!(rt; gives(m, of(m, null(m), SqlOp::Or, truth(m, false)), Value::Null));
+    assert!(rt;
+        gives(
+            m,
+            among(m, number(m, 2), number(m, 1), null(m)),
+            Value::Null
+        )
+    );
+    assert!(rt;
+        gives(
+            m,
+            among(m, number(m, 1), number(m, 1), null(m)),
+            Value::Bool(true)
+        )
+    );
     assert!(rt;
         gives(
             m,
@@ -291,34 +342,34 @@ fn truth_has_three_values(rt: HostRuntime) -> Result<(), Fail> {
 #[test]
 fn operands_are_widened_to_their_join(rt: HostRuntime) -> Result<(), Fail> {
     let m = rt.alloc();
-    assert!(rt; is_of(m, of(m, number(1), SqlOp::Add, number(1)), Kind::Int));
-    assert!(rt; is_of(m, of(m, number(1), SqlOp::Add, name(m, "A")), Kind::Big));
-    assert!(rt; is_of(m, of(m, number(1), SqlOp::Div, number(1)), Kind::Big));
-    assert!(rt; is_of(m, of(m, name(m, "a"), SqlOp::Lt, number(1)), Kind::Bool));
-    assert!(rt; is_of(m, of(m, null(), SqlOp::Concat, text(m, "b")), Kind::Str));
-    assert!(rt; is_of(m, case(m, null(), number(1), name(m, "a")), Kind::Big));
-    assert!(rt; is_of(m, coalesce(m, null(), number(1)), Kind::Int));
+    assert!(rt; is_of(m, of(m, number(m, 1), SqlOp::Add, number(m, 1)), Kind::Int));
+    assert!(rt; is_of(m, of(m, number(m, 1), SqlOp::Add, name(m, "A")), Kind::Big));
+    assert!(rt; is_of(m, of(m, number(m, 1), SqlOp::Div, number(m, 1)), Kind::Big));
+    assert!(rt; is_of(m, of(m, name(m, "a"), SqlOp::Lt, number(m, 1)), Kind::Bool));
+    assert!(rt; is_of(m, of(m, null(m), SqlOp::Concat, text(m, "b")), Kind::Str));
+    assert!(rt; is_of(m, case(m, null(m), number(m, 1), name(m, "a")), Kind::Big));
+    assert!(rt; is_of(m, coalesce(m, null(m), number(m, 1)), Kind::Int));
     Ok(())
 }
 
 #[test]
 fn kinds_must_meet(rt: HostRuntime) -> Result<(), Fail> {
     let m = rt.alloc();
-    assert!(rt; differs(m, of(m, null(), SqlOp::Add, null())));
-    assert!(rt; differs(m, of(m, text(m, "1"), SqlOp::Add, number(1))));
-    assert!(rt; differs(m, of(m, number(1), SqlOp::Concat, number(1))));
-    assert!(rt; differs(m, of(m, truth(true), SqlOp::And, number(1))));
-    assert!(rt; differs(m, among(m, null(), null(), null())));
-    assert!(rt; differs(m, case(m, truth(true), null(), null())));
-    assert!(rt; differs(m, coalesce(m, number(1), text(m, "1"))));
-    assert!(rt; differs(m, Ok(SqlExpr::CountAll)));
+    assert!(rt; differs(m, of(m, null(m), SqlOp::Add, null(m))));
+    assert!(rt; differs(m, of(m, text(m, "1"), SqlOp::Add, number(m, 1))));
+    assert!(rt; differs(m, of(m, number(m, 1), SqlOp::Concat, number(m, 1))));
+    assert!(rt; differs(m, of(m, truth(m, true), SqlOp::And, number(m, 1))));
+    assert!(rt; differs(m, among(m, null(m), null(m), null(m))));
+    assert!(rt; differs(m, case(m, truth(m, true), null(m), null(m))));
+    assert!(rt; differs(m, coalesce(m, number(m, 1), text(m, "1"))));
+    assert!(rt; differs(m, Boxed::new(m, SqlExpr::CountAll)));
     Ok(())
 }
 
 #[test]
 fn unknown_names_are_told_first(rt: HostRuntime) -> Result<(), Fail> {
     let m = rt.alloc();
-    let mismatch = of(m, text(m, "1"), SqlOp::Add, number(1));
+    let mismatch = of(m, text(m, "1"), SqlOp::Add, number(m, 1));
     assert!(rt; lacks(m, of(m, mismatch, SqlOp::Eq, name(m, "b")), "b"));
     assert!(rt; lacks(m, of(m, name(m, "c"), SqlOp::Eq, name(m, "b")), "c"));
     assert!(rt; lacks(m, case(m, name(m, "a"), name(m, "B"), name(m, "c")), "B"));
