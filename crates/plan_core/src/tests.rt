@@ -1,6 +1,6 @@
 use crate::{
     Action, AppendFlow, AppendFlows, Body, Cdc, Dataset, Expectation, Expectations, FlowEnd, Item,
-    Items, Origin, Place, Plan, Query, Stop, StopOr, Verdict,
+    Items, Origin, Place, Plan, Stop, StopOr, Verdict,
 };
 use std::alloc::{AllocError, Global};
 use std::test::Fail;
@@ -18,12 +18,8 @@ fn parts_cross_threads() {
     crosses_threads::<Cdc>();
     crosses_threads::<Item>();
     crosses_threads::<Items>();
-    crosses_threads::<Query>();
     crosses_threads::<FlowEnd>();
     crosses_threads::<StopOr>();
-    crosses_threads::<Body>();
-    crosses_threads::<Dataset>();
-    crosses_threads::<Plan>();
 }
 
 /// A table of that name and level, with no flow and no column.
