@@ -12,7 +12,7 @@ use Rattle.store_core.proofs.StateLemmas.{leads_more}
 abbrev pub bodies_of : List (Vec ℕ Global) → List (List ℕ)
 bodies_of items = map (λ body. body.items) items
 
-records-append : (some more : List (List ℕ)) → length (records (some ++ more)) ≡ length (records some) + length (records more)
+pub records-append : (some more : List (List ℕ)) → length (records (some ++ more)) ≡ length (records some) + length (records more)
 records-append [] more = omega arith
 records-append (body ∷ some) more =
     omega (arith, records-append some more, length-append (framed body) (records (some ++ more)), length-append (framed body) (records some))

@@ -1,8 +1,8 @@
 // A payload is committed.
-ghost use Rattle.std.specs.Prelude.{◌≡◌, ◌≢◌, ◌≤◌, ℕ, None, OnOk, OnErr, IfOk, IfErr};
+ghost use Rattle.std.specs.Prelude.{◌≡◌, ◌≢◌, ◌≤◌, ◌+◌, ℕ, None, length, OnOk, OnErr, IfOk, IfErr};
 ghost use Rattle.disk_model.specs.declared.disk.Side.TheVariants.{Right};
 ghost use Rattle.disk_model.specs.Disk.{IsHonest};
-ghost use Rattle.commit_gate.specs.AtRest.{LeavesFile};
+ghost use Rattle.commit_gate.specs.AtRest.{log_end, LeavesFile};
 ghost use Rattle.commit_records.specs.Payloads.{spelled_payload, HasSpelling, IsWritable};
 ghost use Rattle.store_state.specs.State.{after_payload, Fits};
 ghost use Rattle.store_core.specs.Commit.{IsNext};
@@ -83,7 +83,8 @@ fn prepare(
 impl Store {
     ghost use Rattle.store_core.specs.Commit.{CommitAnswers, broken_by, Commits, CommitsByGate};
     ghost use Rattle.store_core.specs.Ours.{IsOurs};
-    ghost use Rattle.store_core.specs.Store.{store_state, store_broken, IsAsLeft};
+    ghost use Rattle.store_core.specs.Reach.{IsReachable};
+    ghost use Rattle.store_core.specs.Store.{store_state, store_log, store_broken, IsAsLeft};
 
     /// Commits a payload: at `Ok` the store holds it, and from then on whatever a crash leaves has it.
     ///
@@ -100,6 +101,7 @@ impl Store {
         ensures answers { CommitAnswers self.old payload (D.room disk.old) (D.faults disk.old) (D.faults disk.new) result }
 
         ensures state { OnOk result (store_state self.new ≡ after_payload (store_state self.old) payload) }
+        ensures reached { OnOk result (IsReachable (store_state self.old) → IsReachable (store_state self.new)) }
         ensures err { OnErr result (store_state self.new ≡ store_state self.old) }
         ensures broken { store_broken self.new ≡ broken_by result }
 
@@ -111,6 +113,9 @@ impl Store {
         ensures commits { D.tells → IsHonest (D.state disk.old) → store_broken self.old ≡ None → Commits (store_state self.old) payload result (D.state disk.old) (D.state disk.new) }
         ensures by_gate { D.tells → D.tells_moments → IsHonest (D.state disk.old) → store_broken self.old ≡ None → CommitsByGate (store_state self.old) payload result (D.state disk.old) (D.state disk.new) }
         ensures ours { D.tells → IsHonest (D.state disk.old) → IsOurs (D.state disk.old) → IsOurs (D.state disk.new) }
+
+        // The next record will stand behind this one.
+        ensures grows { D.tells → IsHonest (D.state disk.old) → OnOk result (log_end (store_log self.new) ≡ log_end (store_log self.old) + 9 + length (spelled_payload payload)) }
 
         // The right file stays as it is.
         ensures kept { D.tells → IsHonest (D.state disk.old) → LeavesFile Right (D.state disk.old) (D.state disk.new) }

@@ -11,7 +11,7 @@ mod refusal;
 mod store;
 
 pub use commit::CommitEnd;
-pub use laws::a_file_has_one_state;
+pub use laws::{a_file_has_one_state, a_state_comes_of_payloads};
 pub use refusal::StoreRefusal;
 pub use store::Store;
 

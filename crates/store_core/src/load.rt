@@ -1,11 +1,12 @@
 // A store is loaded.
-ghost use Rattle.std.specs.Prelude.{◌≡◌, ◌≢◌, ℕ, None, IfOk};
+ghost use Rattle.std.specs.Prelude.{◌≡◌, ◌≢◌, ◌≤◌, ◌^◌, ℕ, None, length, IfOk};
 ghost use Rattle.disk_model.specs.declared.disk.Side.TheVariants.{Left, Right};
 ghost use Rattle.disk_model.specs.Disk.{TwoFiles, Alone, IsHonest, file};
 ghost use Rattle.disk_model.specs.Faults.{HasCauseOf};
 ghost use Rattle.disk_model.specs.Moments.{LeavesOnly};
-ghost use Rattle.commit_gate.specs.AtRest.{log_epoch, LeavesFile};
+ghost use Rattle.commit_gate.specs.AtRest.{log_end, log_epoch, LeavesFile};
 ghost use Rattle.store_core.specs.Begin.{KeepsSynced, Loads};
+ghost use Rattle.store_core.specs.Reach.{EndsAt, IsReachable};
 ghost use Rattle.store_core.specs.State.{HasState, IsBegun, KeepsState};
 ghost use Rattle.store_core.specs.Ours.{IsOurs};
 
@@ -29,6 +30,13 @@ impl Store {
         // Each answer has its cause, and each cause its answer.
         ensures answers { D.tells → LoadAnswers (D.room disk.old) (file Left (D.state disk.old).now) result }
         ensures exact { D.tells → LoadIsExact (D.room disk.old) (file Left (D.state disk.old).now) result }
+
+        // Whatever the disk tells, the state is one that payloads lead to.
+        ensures reached { IfOk result (λ store. IsReachable (store_state store)) }
+        // The next record will stand where the file ends.
+        ensures ends { D.tells → IsHonest (D.state disk.old) → IfOk result (λ store. EndsAt (log_end (store_log store)) (file Left (D.state disk.old).now)) }
+        // It reads a file of at most 2^40 bytes.
+        ensures small { D.tells → result ≢ Err StoreRefusal.Failed → length (file Left (D.state disk.old).now) ≤ 2 ^ 40 }
 
         ensures whole { IfOk result (λ store. store_broken store ≡ None) }
         // The first log of a store has the number 1.

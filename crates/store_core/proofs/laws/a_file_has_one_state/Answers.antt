@@ -1,3 +1,4 @@
+use Rattle.store_core.proofs.ReachLemmas.{one_end}
 use Rattle.store_core.proofs.StateLemmas.{one_state, not_foreign, not_refused, one_place, refused_not_dead}
 use Rattle.store_core.proofs.laws.a_file_has_one_state.Goals as goal
 
@@ -15,3 +16,6 @@ returns-clause-one_place c = one_place
 
 pub returns-clause-one_cause : goal.returns-clause-one_cause
 returns-clause-one_cause c = λ at len bytes refused foreign. refused_not_dead at bytes refused foreign.0
+
+pub returns-clause-one_end : goal.returns-clause-one_end
+returns-clause-one_end c = one_end

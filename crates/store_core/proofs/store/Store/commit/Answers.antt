@@ -1,6 +1,7 @@
 use Rattle.std.proofs.Common.{Ok, Err, refl}
 use Rattle.store_core.specs.declared.commit.CommitEnd.TheVariants.{Failed}
 use Rattle.store_core.proofs.CommitLemmas.{none_of, commits, by_gate, acknowledged, as_left, ours}
+use Rattle.store_core.proofs.ReachLemmas.{next_reached, grown}
 use Rattle.store_core.proofs.store.Store.commit.Goals as goal
 
 pub returns-in-Ok-clause-at_rest : goal.returns-in-Ok-clause-at_rest
@@ -41,6 +42,19 @@ returns-in-Ok-clause-ours g c = λ told honest was.
     let new = g.D.Disk.state c.append.new.disk in
     let none = none_of c.args.self.now.broken c.in_default.not-Some in
     ours c.args.self.now.contents c.args.payload (Ok tt) old new (returns-in-Ok-clause-commits g c told honest none)
+
+pub returns-in-Ok-clause-reached : goal.returns-in-Ok-clause-reached
+returns-in-Ok-clause-reached g c =
+    let prepared = c.in_ok-framed.ensures.ok in
+    next_reached c.args.self.now.contents _ c.args.payload prepared.follows prepared.taken
+
+pub returns-in-Ok-clause-grows : goal.returns-in-Ok-clause-grows
+returns-in-Ok-clause-grows g c = λ told honest.
+    let old = g.D.Disk.state c.args.disk.now in
+    let new = g.D.Disk.state c.append.new.disk in
+    let left = c.requires.at_rest told (none_of c.args.self.now.broken c.in_default.not-Some) in
+    let appends = c.in-Ok.ensures.appends told honest left.bodies left.at_rest in
+    grown c.args.self.now.log c.append.new.self left.bodies _ _ old new left.at_rest appends.acknowledged c.in_ok-framed.ensures.ok.record_is
 
 pub returns-clause-early : goal.returns-clause-early
 returns-clause-early g c = λ other. absurd (other c.faults-count.result refl)

@@ -1,4 +1,4 @@
-use Rattle.std.proofs.Common.{◌^◌, ◌≤◌, [], length, None, Ok, Err, sym, subst, ◌∙◌, arith}
+use Rattle.std.proofs.Common.{inl, inr, ◌^◌, ◌≤◌, [], length, None, Ok, Err, sym, subst, ◌∙◌, arith}
 use Rattle.std.proofs.lemmas.Result.{err_from_is_err_and}
 use Rattle.disk_model.specs.declared.disk.Side.TheVariants.{Left}
 use Rattle.disk_model.specs.Disk.{file}
@@ -11,6 +11,7 @@ use Rattle.store_core.specs.Begin.{BeginAnswers}
 use Rattle.store_core.specs.declared.store.Store.{Store}
 use Rattle.store_core.proofs.BeginLemmas.{loads_synced, loads_on, moments_read, moments_on, moments_synced, moments_synced_on}
 use Rattle.store_core.proofs.LoadLemmas.{left_state, log_stands, ours_after, exact, log_exact, bodies_refused, begin_refused, loaded, made}
+use Rattle.store_core.proofs.ReachLemmas.{new_log_end}
 use Rattle.store_core.proofs.store.Store.load.Goals as goal
 
 -- ---- the log was refused
@@ -164,3 +165,43 @@ returns-in_ok-log-in-Shut-clause-synced g c = λ told timed honest other.
     let sync = c.in_ok-log.ensures.synced told in
     moments_synced_on (file Left old.now) old (g.D.Disk.state c.load.new.disk) (g.D.Disk.state c.begin.new.disk) sync.no_more (sync.durable honest)
     (c.load.ensures.synced_time told timed honest (λ same. cc c.in_ok-log.was)) (c.begin.ensures.by_moment told timed (sync.honesty.0 honest))
+
+-- ---- what payloads lead to, and where the log ends
+
+pub returns-in_ok-contents-in-Live-clause-reached : goal.returns-in_ok-contents-in-Live-clause-reached
+returns-in_ok-contents-in-Live-clause-reached g c = record { bodies = c.in-Live.bodies; leads = c.in_ok-contents-in-Live.ensures }
+
+pub returns-in_ok-log-in-Shut-clause-reached : goal.returns-in_ok-log-in-Shut-clause-reached
+returns-in_ok-log-in-Shut-clause-reached g c = record { bodies = []; leads = c.new-contents.ensures }
+
+pub returns-in_ok-contents-in-Live-clause-ends : goal.returns-in_ok-contents-in-Live-clause-ends
+returns-in_ok-contents-in-Live-clause-ends g c = λ told honest.
+    let has = subst (IsFoundIn (file Left (g.D.Disk.state c.args.disk.now).now)) c.in-Live.is (c.in_ok-log.ensures.found told) in
+    let ends = subst EndsIfLive c.in-Live.is c.in_ok-log.ensures.end in
+    inl (record { epoch = log_epoch c.in-Live.log; bodies = c.in-Live.bodies; contents = has; place = ends.0 })
+
+pub returns-in_ok-log-in-Shut-clause-ends : goal.returns-in_ok-log-in-Shut-clause-ends
+returns-in_ok-log-in-Shut-clause-ends g c = λ told honest.
+    let found = subst (IsFoundIn (file Left (g.D.Disk.state c.args.disk.now).now)) c.in-Shut.is (c.in_ok-log.ensures.found told) in
+    let at_rest = c.in_ok-log-in-Shut.ensures.at_rest told ((c.load.ensures.synced told).honesty.0 honest) in
+    inr ((found.0, omega (arith, found.1, c.in_ok-log-in-Shut.ensures.answers.0)), new_log_end c.in_ok-log-in-Shut.log (g.D.Disk.state c.begin.new.disk) at_rest.1)
+
+-- ---- how long the file was
+
+pub returns-in_err-log-clause-small : goal.returns-in_err-log-clause-small
+returns-in_err-log-clause-small g c =
+    let p = err_from_is_err_and c.from_residual.result c.from_residual.ensures.1 in
+    rw (p.1, p.2)
+    (λ told other. c.load.ensures.small told (log_stands c.in_err-log.field-0.0 c.load.result c.in_err-log.was (λ result is failed. other (sym is ∙ failed))))
+
+pub returns-in_err-contents-in-Live-clause-small : goal.returns-in_err-contents-in-Live-clause-small
+returns-in_err-contents-in-Live-clause-small g c = λ told other. c.load.ensures.small told (λ same. cc c.in_ok-log.was)
+
+pub returns-in_ok-contents-in-Live-clause-small : goal.returns-in_ok-contents-in-Live-clause-small
+returns-in_ok-contents-in-Live-clause-small g c = λ told other. c.load.ensures.small told (λ same. cc c.in_ok-log.was)
+
+pub returns-in_err-log-in-Shut-clause-small : goal.returns-in_err-log-in-Shut-clause-small
+returns-in_err-log-in-Shut-clause-small g c = λ told other. c.load.ensures.small told (λ same. cc c.in_ok-log.was)
+
+pub returns-in_ok-log-in-Shut-clause-small : goal.returns-in_ok-log-in-Shut-clause-small
+returns-in_ok-log-in-Shut-clause-small g c = λ told other. c.load.ensures.small told (λ same. cc c.in_ok-log.was)
