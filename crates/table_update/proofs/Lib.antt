@@ -1,0 +1,17 @@
+pub mod AlikeLemmas
+pub mod CommitLemmas
+pub mod ContentLemmas
+pub mod CrashLemmas
+pub mod EndLemmas
+pub mod FlowLemmas
+pub mod NewsLemmas
+pub mod ReachLemmas
+pub mod RowLemmas
+pub mod RunLemmas
+pub mod StandFresh
+pub mod StandFronts
+pub mod StandListing
+pub mod StandNew
+pub mod StandSteps
+pub mod StandingLemmas
+pub mod UpdateLemmas

@@ -1,0 +1,9 @@
+pub mod Commit
+pub mod Crash
+pub mod Ends
+pub mod Flow
+pub mod News
+pub mod Refresh
+pub mod Stands
+pub mod Table
+pub mod Update

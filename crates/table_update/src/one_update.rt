@@ -1,0 +1,81 @@
+// One update.
+ghost use Rattle.std.specs.Prelude.{◌≡◌, ◌≤◌, IsTrue};
+ghost use Rattle.disk_model.specs.declared.disk.Side.TheVariants.{Right};
+ghost use Rattle.disk_model.specs.Disk.{IsHonest};
+ghost use Rattle.disk_model.specs.Faults.{Rose};
+ghost use Rattle.line_rows.specs.Lines.{keeps_text};
+ghost use Rattle.commit_gate.specs.AtRest.{LeavesFile};
+ghost use Rattle.landing_core.specs.Folders.{HoldsPresent};
+ghost use Rattle.store_core.specs.Ours.{IsOurs};
+ghost use Rattle.table_update.specs.Crash.{Updated};
+ghost use Rattle.table_update.specs.Stands.{IsStanding};
+ghost use Rattle.table_update.specs.Update as spec;
+
+use crate::end::UpdateEnd;
+use crate::run::run;
+use crate::table::AppendTable;
+use disk_model::Disk;
+use landing_core::Landing;
+use std::alloc::Global;
+use store_core::{Store, StoreRefusal};
+
+/// Why the store was not loaded, as the end of an update.
+fn end_of_load(refusal: StoreRefusal) -> UpdateEnd
+    ensures { result ≡ spec.end_of_load refusal }
+{
+    match refusal {
+        StoreRefusal::Foreign { len, .. } => UpdateEnd::Foreign { len },
+        StoreRefusal::Damaged { at, .. } => UpdateEnd::Damaged { at },
+        StoreRefusal::Full { end, room } => UpdateEnd::Full { end, room },
+        StoreRefusal::Failed => UpdateEnd::LoadFailed,
+        StoreRefusal::Memory => UpdateEnd::Memory,
+    }
+}
+
+/// One update of an append table: loads the store, defines the table where the store has no dataset yet,
+/// and takes in the complete lines of its folder that are new, in one commit.
+///
+/// A store that holds another dataset, or this table by another text, is refused and stays as it is. So
+/// does one where the flow stops: a file is shorter than how far it was read, the landing failed, the
+/// batch has no room, or nothing is new. Lines that were taken are not taken again, whatever their files
+/// become (Databricks documentation, Streaming tables).
+///
+/// Whatever a crash leaves, at any moment, is the store as it was with a front of the update's one or two
+/// commits, and with each that was acknowledged. The disk reads what one of its images holds at first.
+pub fn update<D: Disk, L: Landing>(
+    alloc: Global,
+    disk: &mut D,
+    landing: &mut L,
+    table: &AppendTable,
+) -> UpdateEnd
+    requires honest { D.tells → IsHonest (D.state disk.old) }
+    // A column that keeps rescued lines is a STRING.
+    requires text { IsTrue (keeps_text table.now.shape) }
+
+    // How it ended, which payloads it committed, and what a crash leaves.
+    ensures updated { D.tells → L.tells → Updated D.tells_moments table.now (record { bytes = (D.state disk.old).now.left; room = D.room disk.old; landing = L.present landing.old }) result (D.state disk.old) (D.state disk.new) }
+    // A store of this kind stays one, whatever a crash leaves.
+    ensures ours { D.tells → IsOurs (D.state disk.old) → IsOurs (D.state disk.new) }
+
+    // Where whatever a crash leaves of the store stood as it should, so it does after the update.
+    ensures stands { D.tells → L.tells → HoldsPresent (L.present landing.old) (L.ever landing.old) → IsStanding table.now (L.ever landing.old) (D.state disk.old) → IsStanding table.now (L.ever landing.old) (D.state disk.new) }
+
+    // What an update leaves alone.
+    ensures honest { D.tells → IsHonest (D.state disk.new) }
+    ensures kept { D.tells → LeavesFile Right (D.state disk.old) (D.state disk.new) }
+    ensures room { D.room disk.new ≡ D.room disk.old }
+    ensures present { L.tells → L.present landing.new ≡ L.present landing.old }
+    ensures ever { L.tells → L.ever landing.new ≡ L.ever landing.old }
+
+    // Over any devices: no count falls, and an end that blames a device comes only where its count rose.
+    ensures disk_later { D.faults disk.old ≤ D.faults disk.new }
+    ensures landing_later { L.faults landing.old ≤ L.faults landing.new }
+    ensures load_fault { result ≡ UpdateEnd.LoadFailed → Rose (D.faults disk.old) (D.faults disk.new) }
+    ensures commit_fault { result ≡ UpdateEnd.CommitFailed → Rose (D.faults disk.old) (D.faults disk.new) }
+    ensures landing_fault { result ≡ UpdateEnd.LandingFailed → Rose (L.faults landing.old) (L.faults landing.new) }
+{
+    match Store::load(alloc, disk) {
+        Ok(mut store) => run(alloc, disk, landing, table, &mut store),
+        Err(refusal) => end_of_load(refusal),
+    }
+}
