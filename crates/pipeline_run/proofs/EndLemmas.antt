@@ -1,26 +1,32 @@
 -- A run has one end.
-use Rattle.std.proofs.Common.{◌≡◌, ◌≢◌, inl, inr, ℕ, ◌<◌, ◌≤◌, List, [], ◌∷◌, length, take, refl, sym, ap, subst, ◌∙◌, Option, Some, None, arith}
+use Rattle.std.proofs.Common.{◌≡◌, ◌≢◌, ◌⊎◌, inl, inr, ℕ, ◌<◌, ◌≤◌, ◌^◌, List, [], ◌∷◌, ◌++◌, length, take, refl, sym, ap, subst, ◌∙◌, Option, Some, None, Bool, append-nil, arith}
 use Rattle.disk_model.specs.Faults.{Rose}
-use Rattle.landing_core.specs.declared.landing.Listed.{Listed}
-use Rattle.landing_core.specs.Places.{place_of}
-use Rattle.plain_store.specs.declared.store.Store.{Store}
-use Rattle.plain_store.specs.Reading.{stored}
-use Rattle.plain_store.specs.Spelling.{spelling}
+use Rattle.commit_records.specs.declared.payload.Payload.{Payload}
 use Rattle.sql_tokens.specs.declared.error.SqlRefusal.{SqlRefusal}
 use Rattle.sql_tree.specs.declared.statement.Statement.{Statement}
 use Rattle.pipeline_sql.specs.Read.{IsRead, IsRefused}
+use Rattle.store_core.specs.Reach.{EndsAt, IsLogEnd}
+use Rattle.table_update.specs.declared.end.UpdateEnd.{UpdateEnd}
+use Rattle.table_update.specs.declared.end.UpdateEnd.TheVariants as ends
+use Rattle.table_update.specs.declared.table.AppendTable.{AppendTable}
+use Rattle.table_update.specs.Crash.{HasThem}
+use Rattle.table_update.specs.Ends as tables
+use Rattle.table_update.specs.Ends.{Alike, IsOwn}
+use Rattle.table_update.specs.Update.{Found, Updates, IsSuccess, end_after}
 use Rattle.pipeline_run.specs.declared.command.Command.{Command}
 use Rattle.pipeline_run.specs.declared.command.Command.TheVariants.{Validate, Update}
 use Rattle.pipeline_run.specs.declared.outcome.Outcome.{Outcome}
-use Rattle.pipeline_run.specs.declared.outcome.Outcome.TheVariants.{Usage, TextFailed, Refused, NotSupported, Valid, Foreign, Full, DiskFailed, Completed, Current, Shrunk, LandingFailed}
+use Rattle.pipeline_run.specs.declared.outcome.Outcome.TheVariants.{Usage, TextFailed, Refused, NotSupported, Valid, Updated}
 use Rattle.pipeline_run.specs.declared.outcome.Status.{Status}
 use Rattle.pipeline_run.specs.declared.outcome.Status.TheVariants as status
-use Rattle.pipeline_run.specs.Ends.{NothingFailed, RanWell, SameEnd, NothingRefused, AreValidates, HaveOneUpdate}
+use Rattle.pipeline_run.specs.Ends.{NothingFailed, RanWell, SameFile, SameEnd, NothingRefused, AreValidates, HaveOneUpdate}
 use Rattle.pipeline_run.specs.Pipeline.{the_pipeline, text_limit, HasStatements}
-use Rattle.pipeline_run.specs.Report.{status_of}
-use Rattle.pipeline_run.specs.Run.{Around, Counts, NoneFalls, Standing, Comes, Blames, IsTold, Tells, Executes, Runs, Refuses, Ran}
-use Rattle.pipeline_run.specs.Update.{Found, shrunk, lines, reach, with_lines, Updates}
-use Rattle.pipeline_run.proofs.RunLemmas.{found_by}
+use Rattle.pipeline_run.specs.Report.{status_of, status_of_end}
+use Rattle.pipeline_run.specs.Run.{Around, found_by, Counts, NoneFalls, Standing, IsIdle, IsUpdate, Comes, Blames, BlamesOf, IsTold, Tells, Executes, Runs, Refuses, Ran}
+use Rattle.pipeline_run.specs.Table.{the_table}
+use Rattle.pipeline_run.specs.Update.{Ended, EndsWith, tried_by}
+use Rattle.pipeline_run.proofs.CrashLemmas.{tried_by_both}
+use Rattle.pipeline_run.proofs.RunLemmas.{success}
 
 -- a text has one reading or one refusal, and not both
 pub record HasOneAnswer : Type 0 where
@@ -28,173 +34,158 @@ pub record HasOneAnswer : Type 0 where
   pub apart : (text : List ℕ) (p : List Statement) (refusal : SqlRefusal) → IsRead text p → IsRefused text refusal → ⊥
   pub refused : (text : List ℕ) (refusal other : SqlRefusal) → IsRefused text refusal → IsRefused text other → refusal ≡ other
 
--- ---- the forms in which an update ends where no device fails
+-- an update has one end over one file, and over two that are taken for the same
+pub record HasOneEnd : Type 0 where
+  pub same : (table : AppendTable) (found : Found) (loaded also_loaded : Bool) (acked tried also_acked also_tried : List Payload) (end other : UpdateEnd) → length found.bytes ≤ 2 ^ 40
+      → Updates table found loaded acked tried end → Updates table found also_loaded also_acked also_tried other → IsOwn end → IsOwn other → (end ≡ other) × (tried ≡ also_tried)
+  pub alike : (table : AppendTable) (found also : Found) (loaded also_loaded : Bool) (acked tried also_acked also_tried : List Payload) (end other : UpdateEnd) → length found.bytes ≤ 2 ^ 40 → length also.bytes ≤ 2 ^ 40
+      → Alike found.bytes also.bytes → also.room ≡ found.room → also.landing ≡ found.landing
+      → Updates table found loaded acked tried end → Updates table also also_loaded also_acked also_tried other → IsOwn end → IsOwn other → (end ≡ other) × (tried ≡ also_tried)
+  pub settled : (table : AppendTable) (found : Found) (loaded : Bool) (acked tried : List Payload) (end : UpdateEnd) (image other : List ℕ) → length found.bytes ≤ 2 ^ 40
+      → Updates table found loaded acked tried end → IsSuccess end → HasThem found.bytes tried image → HasThem found.bytes tried other
+      → ((at : ℕ) → EndsAt at found.bytes → IsLogEnd (end_after at tried) image) → ((at : ℕ) → EndsAt at found.bytes → IsLogEnd (end_after at tried) other) → Alike image other
+  pub settled_alike : (bytes also image other : List ℕ) (tried : List Payload) → Alike bytes also → HasThem bytes tried image → HasThem also tried other
+      → ((at : ℕ) → EndsAt at bytes → IsLogEnd (end_after at tried) image) → ((at : ℕ) → EndsAt at also → IsLogEnd (end_after at tried) other) → Alike image other
 
-data Form : Type 0 where
-  IsForeign : Form
-  HasShrunk : Store → Listed → Form
-  IsCurrent : Store → Form
-  IsFull : Store → Form
-  IsDone : Store → Form
+-- it succeeds where it has nothing to refuse
+abbrev pub Succeeds : Type 0
+Succeeds = (table : AppendTable) (found : Found) (loaded : Bool) (acked tried : List Payload) (end : UpdateEnd) → length found.bytes ≤ 2 ^ 40
+    → Updates table found loaded acked tried end → IsOwn end → tables.NothingRefused table found → IsSuccess end
 
-abbrev whole : Found → Store → List ℕ
-whole found store = spelling (with_lines store (lines found store) (reach found store))
+-- ---- updates from files that are taken for the same
 
-abbrev IsOfForm : Found → Form → Outcome → List ℕ → Type 0
-IsOfForm found IsForeign outcome after = (stored found.file ≡ None) × (outcome ≡ Foreign (length found.file)) × (after ≡ found.file)
-IsOfForm found (HasShrunk store listed) outcome after =
-    (stored found.file ≡ Some store) × (shrunk found store ≡ Some listed) × (outcome ≡ Shrunk listed.file (place_of store.places listed.file) listed.size) × (after ≡ found.file)
-IsOfForm found (IsCurrent store) outcome after =
-    (stored found.file ≡ Some store) × (shrunk found store ≡ None) × (reach found store ≡ store.places) × (outcome ≡ Current) × (after ≡ found.file)
-IsOfForm found (IsFull store) outcome after =
-    (stored found.file ≡ Some store) × (shrunk found store ≡ None) × (reach found store ≢ store.places) × (found.room < length (whole found store))
-    × (outcome ≡ Full (length (whole found store)) found.room) × (after ≡ found.file)
-IsOfForm found (IsDone store) outcome after =
-    (stored found.file ≡ Some store) × (shrunk found store ≡ None) × (reach found store ≢ store.places) × (length (whole found store) ≤ found.room)
-    × (outcome ≡ Completed (length (lines found store)) (length (with_lines store (lines found store) (reach found store)).changes)) × (after ≡ whole found store)
+not_failed : (end : UpdateEnd) → IsOwn end → end ≢ ends.LoadFailed
+not_failed end own is = subst IsOwn is own
 
--- an outcome that blames no device
-abbrev IsBlameless : Outcome → Type 0
-IsBlameless TextFailed = ⊥
-IsBlameless DiskFailed = ⊥
-IsBlameless LandingFailed = ⊥
-IsBlameless outcome = Unit {0}
+record SameUpdate (ended second : Ended) (after also : List ℕ) : Type 0 where
+  ends_same : ended.end ≡ second.end
+  tried : ended.tried ≡ second.tried
+  files : IsSuccess ended.end → SameFile after also
 
-form_of : (found : Found) (outcome : Outcome) (after : List ℕ) → IsBlameless outcome → Updates found outcome after → (form : Form) × IsOfForm found form outcome after
-form_of found (Foreign len) after fine u = (IsForeign, (u.0, ap Foreign u.1, u.2))
-form_of found (Shrunk file cursor size) after fine u =
-    let store = u.0 in
-    (HasShrunk store (record { file = file; size = size }), (u.1, u.2.0, ap (λ (n : ℕ). Shrunk file n size) u.2.1, u.2.2))
-form_of found Current after fine u = (IsCurrent u.0, (u.1, u.2.0, u.2.1, refl, u.2.2))
-form_of found (Full end limit) after fine u =
-    let store = u.0 in
-    let w = u.2.1.writes in
-    (IsFull store, (u.1, u.2.0.none_shrank, u.2.0.moves, subst (λ (n : ℕ). found.room < n) w.1 w.0, (λ i. Full (w.1 i) (w.2 i)), w.3))
-form_of found (Completed read version) after fine u =
-    let store = u.0 in
-    let w = u.2.1.writes in
-    let n = u.2.1.counts in
-    (IsDone store, (u.1, u.2.0.none_shrank, u.2.0.moves, w.0, (λ i. Completed (n.0 i) (n.1 i)), w.1))
-form_of found Usage after fine u = absurd u.2.1.writes
-form_of found NotSupported after fine u = absurd u.2.1.writes
-form_of found TextFailed after fine u = absurd fine
-form_of found (Refused refusal) after fine u = absurd u.2.1.writes
-form_of found Valid after fine u = absurd u.2.1.writes
-form_of found DiskFailed after fine u = absurd fine
-form_of found LandingFailed after fine u = absurd fine
+same_update : HasOneEnd → (around : Around) (before was : List ℕ) (ended second : Ended) (after also : List ℕ) → SameFile before was → IsOwn ended.end → IsOwn second.end
+    → EndsWith (found_by around before) ended after → EndsWith (found_by around was) second also → SameUpdate ended second after also
+same_update law around before was ended second after also (inl same) own own_too is here =
+    let is_too : EndsWith (found_by around before) second also = subst (λ (bytes : List ℕ). EndsWith (found_by around bytes) second also) (sym same) here in
+    let small = is.small (not_failed ended.end own) in
+    let both = law.same the_table (found_by around before) ended.loaded second.loaded ended.acked ended.tried second.acked second.tried ended.end second.end small is.updates is_too.updates own own_too in
+    record {
+      ends_same = both.0;
+      tried = both.1;
+      files = λ well.
+          let well_too : IsSuccess second.end = subst IsSuccess both.0 well in
+          inr (law.settled the_table (found_by around before) ended.loaded ended.acked ended.tried ended.end after also small is.updates well (is.reads well)
+          (subst (λ (tried : List Payload). HasThem before tried also) (sym both.1) (is_too.reads well_too)) (is.goes_on well)
+          (subst (λ (tried : List Payload). (at : ℕ) → EndsAt at before → IsLogEnd (end_after at tried) also) (sym both.1) (is_too.goes_on well_too)));
+    }
+same_update law around before was ended second after also (inr alike) own own_too is is_too =
+    let small = is.small (not_failed ended.end own) in
+    let small_too = is_too.small (not_failed second.end own_too) in
+    let both = law.alike the_table (found_by around before) (found_by around was) ended.loaded second.loaded ended.acked ended.tried second.acked second.tried ended.end second.end small small_too alike refl refl is.updates is_too.updates own own_too in
+    record {
+      ends_same = both.0;
+      tried = both.1;
+      files = λ well.
+          let well_too : IsSuccess second.end = subst IsSuccess both.0 well in
+          inr (law.settled_alike before was after also ended.tried alike (is.reads well) (subst (λ (tried : List Payload). HasThem was tried also) (sym both.1) (is_too.reads well_too)) (is.goes_on well)
+          (subst (λ (tried : List Payload). (at : ℕ) → EndsAt at was → IsLogEnd (end_after at tried) also) (sym both.1) (is_too.goes_on well_too)));
+    }
 
-abbrev SameOutcome : Outcome → Outcome → List ℕ → List ℕ → Type 0
-SameOutcome outcome other after also = (outcome ≡ other) × (after ≡ also)
+-- ---- outcomes of commands
 
-too_long : (found : Found) (s t : Store) → s ≡ t → found.room < length (whole found s) → length (whole found t) ≤ found.room → ⊥
-too_long found s t same over within = let n : length (whole found s) ≡ length (whole found t) = ap (λ (x : Store). length (whole found x)) same in omega (arith, n, over, within)
+record SameOutcome (outcome other : Outcome) (updates others : List Ended) (after also : List ℕ) : Type 0 where
+  outcomes : outcome ≡ other
+  tried : tried_by updates ≡ tried_by others
+  files : status_of outcome ≡ status.Ok → SameFile after also
 
-one_form : (found : Found) (f g : Form) (outcome other : Outcome) (after also : List ℕ) → IsOfForm found f outcome after → IsOfForm found g other also → SameOutcome outcome other after also
-one_form found IsForeign IsForeign outcome other after also p q = (cc, cc)
-one_form found IsForeign (HasShrunk t m) outcome other after also p q = absurd cc
-one_form found IsForeign (IsCurrent t) outcome other after also p q = absurd cc
-one_form found IsForeign (IsFull t) outcome other after also p q = absurd cc
-one_form found IsForeign (IsDone t) outcome other after also p q = absurd cc
-one_form found (HasShrunk s l) IsForeign outcome other after also p q = absurd cc
-one_form found (HasShrunk s l) (HasShrunk t m) outcome other after also p q = (cc, cc)
-one_form found (HasShrunk s l) (IsCurrent t) outcome other after also p q = absurd cc
-one_form found (HasShrunk s l) (IsFull t) outcome other after also p q = absurd cc
-one_form found (HasShrunk s l) (IsDone t) outcome other after also p q = absurd cc
-one_form found (IsCurrent s) IsForeign outcome other after also p q = absurd cc
-one_form found (IsCurrent s) (HasShrunk t m) outcome other after also p q = absurd cc
-one_form found (IsCurrent s) (IsCurrent t) outcome other after also p q = (cc, cc)
-one_form found (IsCurrent s) (IsFull t) outcome other after also p q = absurd (q.2 cc)
-one_form found (IsCurrent s) (IsDone t) outcome other after also p q = absurd (q.2 cc)
-one_form found (IsFull s) IsForeign outcome other after also p q = absurd cc
-one_form found (IsFull s) (HasShrunk t m) outcome other after also p q = absurd cc
-one_form found (IsFull s) (IsCurrent t) outcome other after also p q = absurd (p.2 cc)
-one_form found (IsFull s) (IsFull t) outcome other after also p q = (cc, cc)
-one_form found (IsFull s) (IsDone t) outcome other after also p q = absurd (too_long found s t (cc) p.3 q.3)
-one_form found (IsDone s) IsForeign outcome other after also p q = absurd cc
-one_form found (IsDone s) (HasShrunk t m) outcome other after also p q = absurd cc
-one_form found (IsDone s) (IsCurrent t) outcome other after also p q = absurd (p.2 cc)
-one_form found (IsDone s) (IsFull t) outcome other after also p q = absurd (too_long found t s (cc) q.3 p.3)
-one_form found (IsDone s) (IsDone t) outcome other after also p q = (cc, cc)
+same_idle : (outcome other : Outcome) (updates others : List Ended) (before was after also : List ℕ) → outcome ≡ other → SameFile before was → IsIdle updates before after → IsIdle others was also → SameOutcome outcome other updates others after also
+same_idle outcome other updates others before was after also same files idle idle_too = record {
+  outcomes = same;
+  tried = ap tried_by idle.0 ∙ sym (ap tried_by idle_too.0);
+  files = λ ok. subst (λ (bytes : List ℕ). SameFile bytes also) (sym idle.1) (subst (λ (bytes : List ℕ). SameFile before bytes) (sym idle_too.1) files);
+}
+
+same_ended : HasOneEnd → (around : Around) (end other : UpdateEnd) (updates others : List Ended) (before was after also : List ℕ) → SameFile before was → IsOwn end → IsOwn other
+    → IsUpdate around end updates before after → IsUpdate around other others was also → SameOutcome (Updated end) (Updated other) updates others after also
+same_ended law around end other updates others before was after also files own own_too (ended, is, same_end, with_it) (second, is_too, same_too, with_too) =
+    let same = same_update law around before was ended second after also files (subst IsOwn (sym same_end) own) (subst IsOwn (sym same_too) own_too) with_it with_too in
+    record {
+      outcomes = ap Updated (sym same_end ∙ same.ends_same ∙ same_too);
+      tried = ap tried_by is ∙ ap (λ (tried : List Payload). tried ++ []) same.tried ∙ sym (ap tried_by is_too);
+      files = λ ok. same.files (subst IsSuccess (sym same_end) (success end ok));
+    }
 
 -- ---- how a command ends where no device fails
+
+-- an outcome that blames no device, nor want of memory
+abbrev IsBlameless : Outcome → Type 0
+IsBlameless TextFailed = ⊥
+IsBlameless (Updated end) = IsOwn end
+IsBlameless outcome = Unit {0}
 
 data Way : Type 0 where
   RefusedText : SqlRefusal → Way
   OtherText : List Statement → Way
   ValidText : List Statement → Way
-  Updated : Form → Way
+  UpdatedSo : UpdateEnd → Way
 
-abbrev Goes : Command → Around → List ℕ → Way → Outcome → List ℕ → Type 0
-Goes Validate around before (RefusedText refusal) outcome after = IsRefused (take text_limit around.text) refusal × (outcome ≡ Refused refusal) × (after ≡ before)
-Goes Validate around before (ValidText statements) outcome after = HasStatements around.text statements × (outcome ≡ Valid) × (after ≡ before)
-Goes Validate around before way outcome after = ⊥
-Goes Update around before (RefusedText refusal) outcome after = IsRefused (take text_limit around.text) refusal × (outcome ≡ Refused refusal) × (after ≡ before)
-Goes Update around before (OtherText statements) outcome after =
-    HasStatements around.text statements × (statements ≢ the_pipeline) × (outcome ≡ NotSupported) × (after ≡ before)
-Goes Update around before (Updated form) outcome after = HasStatements around.text the_pipeline × IsOfForm (found_by around before) form outcome after
-Goes Update around before way outcome after = ⊥
+abbrev Goes : Command → Around → Way → Outcome → List Ended → List ℕ → List ℕ → Type 0
+Goes Validate around (RefusedText refusal) outcome updates before after = IsRefused (take text_limit around.text) refusal × (outcome ≡ Refused refusal) × IsIdle updates before after
+Goes Validate around (ValidText statements) outcome updates before after = HasStatements around.text statements × (outcome ≡ Valid) × IsIdle updates before after
+Goes Validate around way outcome updates before after = ⊥
+Goes Update around (RefusedText refusal) outcome updates before after = IsRefused (take text_limit around.text) refusal × (outcome ≡ Refused refusal) × IsIdle updates before after
+Goes Update around (OtherText statements) outcome updates before after =
+    HasStatements around.text statements × (statements ≢ the_pipeline) × (outcome ≡ NotSupported) × IsIdle updates before after
+Goes Update around (UpdatedSo end) outcome updates before after = HasStatements around.text the_pipeline × (outcome ≡ Updated end) × IsOwn end × IsUpdate around end updates before after
+Goes Update around way outcome updates before after = ⊥
 
-updated : (around : Around) (outcome : Outcome) (before after : List ℕ) → IsBlameless outcome → HasStatements around.text the_pipeline × Updates (found_by around before) outcome after
-    → (way : Way) × Goes Update around before way outcome after
-updated around outcome before after fine comes =
-    let form = form_of (found_by around before) outcome after fine comes.1 in
-    (Updated form.0, (comes.0, form.1))
-
-way_of : (command : Command) (around : Around) (outcome : Outcome) (before after : List ℕ) → IsBlameless outcome → Comes command around outcome before after → (way : Way) × Goes command around before way outcome after
-way_of Validate around Usage before after fine comes = absurd comes
-way_of Validate around TextFailed before after fine comes = absurd fine
-way_of Validate around (Refused refusal) before after fine comes = (RefusedText refusal, (comes.0, refl, comes.1))
-way_of Validate around NotSupported before after fine comes = absurd comes
-way_of Validate around Valid before after fine comes = (ValidText comes.0.0, (comes.0.1, refl, comes.1))
-way_of Validate around (Foreign len) before after fine comes = absurd comes
-way_of Validate around (Full end room) before after fine comes = absurd comes
-way_of Validate around DiskFailed before after fine comes = absurd comes
-way_of Validate around (Completed read version) before after fine comes = absurd comes
-way_of Validate around Current before after fine comes = absurd comes
-way_of Validate around (Shrunk file cursor size) before after fine comes = absurd comes
-way_of Validate around LandingFailed before after fine comes = absurd comes
-way_of Update around Usage before after fine comes = updated around Usage before after fine comes
-way_of Update around TextFailed before after fine comes = absurd fine
-way_of Update around (Refused refusal) before after fine comes = (RefusedText refusal, (comes.0, refl, comes.1))
-way_of Update around NotSupported before after fine comes = (OtherText comes.0.0, (comes.0.1, comes.0.2, refl, comes.1))
-way_of Update around Valid before after fine comes = updated around Valid before after fine comes
-way_of Update around (Foreign len) before after fine comes = updated around (Foreign len) before after fine comes
-way_of Update around (Full end room) before after fine comes = updated around (Full end room) before after fine comes
-way_of Update around DiskFailed before after fine comes = updated around DiskFailed before after fine comes
-way_of Update around (Completed read version) before after fine comes = updated around (Completed read version) before after fine comes
-way_of Update around Current before after fine comes = updated around Current before after fine comes
-way_of Update around (Shrunk file cursor size) before after fine comes = updated around (Shrunk file cursor size) before after fine comes
-way_of Update around LandingFailed before after fine comes = updated around LandingFailed before after fine comes
+way_of : (command : Command) (around : Around) (outcome : Outcome) (updates : List Ended) (before after : List ℕ) → IsBlameless outcome → Comes command around outcome updates before after → (way : Way) × Goes command around way outcome updates before after
+way_of Validate around Usage updates before after fine comes = absurd comes
+way_of Validate around TextFailed updates before after fine comes = absurd fine
+way_of Validate around (Refused refusal) updates before after fine comes = (RefusedText refusal, (comes.0, refl, comes.1))
+way_of Validate around NotSupported updates before after fine comes = absurd comes
+way_of Validate around Valid updates before after fine comes = (ValidText comes.0.0, (comes.0.1, refl, comes.1))
+way_of Validate around (Updated end) updates before after fine comes = absurd comes
+way_of Update around Usage updates before after fine comes = absurd comes
+way_of Update around TextFailed updates before after fine comes = absurd fine
+way_of Update around (Refused refusal) updates before after fine comes = (RefusedText refusal, (comes.0, refl, comes.1))
+way_of Update around NotSupported updates before after fine comes = (OtherText comes.0.0, (comes.0.1, comes.0.2, refl, comes.1))
+way_of Update around Valid updates before after fine comes = absurd comes
+way_of Update around (Updated end) updates before after fine comes = (UpdatedSo end, (comes.0, refl, fine, comes.1))
 
 one_refusal : HasOneAnswer → (text : List ℕ) (refusal second : SqlRefusal) (outcome other : Outcome) → IsRefused text refusal → IsRefused text second → outcome ≡ Refused refusal → other ≡ Refused second → outcome ≡ other
 one_refusal law text refusal second outcome other is is_too p q = p ∙ ap Refused (law.refused text refusal second is is_too) ∙ sym q
 
-one_way : HasOneAnswer → (command : Command) (around : Around) (before : List ℕ) (way route : Way) (outcome other : Outcome) (after also : List ℕ)
-    → Goes command around before way outcome after → Goes command around before route other also → SameOutcome outcome other after also
+updated_both : HasOneEnd → (around : Around) (end second : UpdateEnd) (outcome other : Outcome) (updates others : List Ended) (before was after also : List ℕ) → SameFile before was → outcome ≡ Updated end → other ≡ Updated second
+    → IsOwn end → IsOwn second → IsUpdate around end updates before after → IsUpdate around second others was also → SameOutcome outcome other updates others after also
+updated_both law around end second outcome other updates others before was after also files is is_too own own_too p q =
+    rw (is, is_too) (same_ended law around end second updates others before was after also files own own_too p q)
+
+one_way : HasOneAnswer → HasOneEnd → (command : Command) (around : Around) (way route : Way) (outcome other : Outcome) (updates others : List Ended) (before was after also : List ℕ) → SameFile before was
+    → Goes command around way outcome updates before after → Goes command around route other others was also → SameOutcome outcome other updates others after also
 unfolding HasStatements
-one_way law Validate around before (RefusedText r) (RefusedText s) outcome other after also p q = (one_refusal law (take text_limit around.text) r s outcome other p.0 q.0 p.1 q.1, p.2 ∙ sym q.2)
-one_way law Validate around before (RefusedText r) (OtherText s) outcome other after also p q = absurd q
-one_way law Validate around before (RefusedText r) (ValidText s) outcome other after also p q = absurd (law.apart (take text_limit around.text) s r q.0 p.0)
-one_way law Validate around before (RefusedText r) (Updated s) outcome other after also p q = absurd q
-one_way law Validate around before (OtherText r) route outcome other after also p q = absurd p
-one_way law Validate around before (ValidText r) (RefusedText s) outcome other after also p q = absurd (law.apart (take text_limit around.text) r s p.0 q.0)
-one_way law Validate around before (ValidText r) (OtherText s) outcome other after also p q = absurd q
-one_way law Validate around before (ValidText r) (ValidText s) outcome other after also p q = (p.1 ∙ sym q.1, p.2 ∙ sym q.2)
-one_way law Validate around before (ValidText r) (Updated s) outcome other after also p q = absurd q
-one_way law Validate around before (Updated r) route outcome other after also p q = absurd p
-one_way law Update around before (RefusedText r) (RefusedText s) outcome other after also p q = (one_refusal law (take text_limit around.text) r s outcome other p.0 q.0 p.1 q.1, p.2 ∙ sym q.2)
-one_way law Update around before (RefusedText r) (OtherText s) outcome other after also p q = absurd (law.apart (take text_limit around.text) s r q.0 p.0)
-one_way law Update around before (RefusedText r) (ValidText s) outcome other after also p q = absurd q
-one_way law Update around before (RefusedText r) (Updated s) outcome other after also p q = absurd (law.apart (take text_limit around.text) the_pipeline r q.0 p.0)
-one_way law Update around before (OtherText r) (RefusedText s) outcome other after also p q = absurd (law.apart (take text_limit around.text) r s p.0 q.0)
-one_way law Update around before (OtherText r) (OtherText s) outcome other after also p q = (p.2 ∙ sym q.2, p.3 ∙ sym q.3)
-one_way law Update around before (OtherText r) (ValidText s) outcome other after also p q = absurd q
-one_way law Update around before (OtherText r) (Updated s) outcome other after also p q = absurd (p.1 (law.one (take text_limit around.text) r the_pipeline p.0 q.0))
-one_way law Update around before (ValidText r) route outcome other after also p q = absurd p
-one_way law Update around before (Updated r) (RefusedText s) outcome other after also p q = absurd (law.apart (take text_limit around.text) the_pipeline s p.0 q.0)
-one_way law Update around before (Updated r) (OtherText s) outcome other after also p q = absurd (q.1 (law.one (take text_limit around.text) s the_pipeline q.0 p.0))
-one_way law Update around before (Updated r) (ValidText s) outcome other after also p q = absurd q
-one_way law Update around before (Updated r) (Updated s) outcome other after also p q = one_form (found_by around before) r s outcome other after also p.1 q.1
+one_way law one Validate around (RefusedText r) (RefusedText s) outcome other updates others before was after also files p q = same_idle outcome other updates others before was after also (one_refusal law (take text_limit around.text) r s outcome other p.0 q.0 p.1 q.1) files p.2 q.2
+one_way law one Validate around (RefusedText r) (OtherText s) outcome other updates others before was after also files p q = absurd q
+one_way law one Validate around (RefusedText r) (ValidText s) outcome other updates others before was after also files p q = absurd (law.apart (take text_limit around.text) s r q.0 p.0)
+one_way law one Validate around (RefusedText r) (UpdatedSo s) outcome other updates others before was after also files p q = absurd q
+one_way law one Validate around (OtherText r) route outcome other updates others before was after also files p q = absurd p
+one_way law one Validate around (ValidText r) (RefusedText s) outcome other updates others before was after also files p q = absurd (law.apart (take text_limit around.text) r s p.0 q.0)
+one_way law one Validate around (ValidText r) (OtherText s) outcome other updates others before was after also files p q = absurd q
+one_way law one Validate around (ValidText r) (ValidText s) outcome other updates others before was after also files p q = same_idle outcome other updates others before was after also (p.1 ∙ sym q.1) files p.2 q.2
+one_way law one Validate around (ValidText r) (UpdatedSo s) outcome other updates others before was after also files p q = absurd q
+one_way law one Validate around (UpdatedSo r) route outcome other updates others before was after also files p q = absurd p
+one_way law one Update around (RefusedText r) (RefusedText s) outcome other updates others before was after also files p q = same_idle outcome other updates others before was after also (one_refusal law (take text_limit around.text) r s outcome other p.0 q.0 p.1 q.1) files p.2 q.2
+one_way law one Update around (RefusedText r) (OtherText s) outcome other updates others before was after also files p q = absurd (law.apart (take text_limit around.text) s r q.0 p.0)
+one_way law one Update around (RefusedText r) (ValidText s) outcome other updates others before was after also files p q = absurd q
+one_way law one Update around (RefusedText r) (UpdatedSo s) outcome other updates others before was after also files p q = absurd (law.apart (take text_limit around.text) the_pipeline r q.0 p.0)
+one_way law one Update around (OtherText r) (RefusedText s) outcome other updates others before was after also files p q = absurd (law.apart (take text_limit around.text) r s p.0 q.0)
+one_way law one Update around (OtherText r) (OtherText s) outcome other updates others before was after also files p q = same_idle outcome other updates others before was after also (p.2 ∙ sym q.2) files p.3 q.3
+one_way law one Update around (OtherText r) (ValidText s) outcome other updates others before was after also files p q = absurd q
+one_way law one Update around (OtherText r) (UpdatedSo s) outcome other updates others before was after also files p q = absurd (p.1 (law.one (take text_limit around.text) r the_pipeline p.0 q.0))
+one_way law one Update around (ValidText r) route outcome other updates others before was after also files p q = absurd p
+one_way law one Update around (UpdatedSo r) (RefusedText s) outcome other updates others before was after also files p q = absurd (law.apart (take text_limit around.text) the_pipeline s p.0 q.0)
+one_way law one Update around (UpdatedSo r) (OtherText s) outcome other updates others before was after also files p q = absurd (q.1 (law.one (take text_limit around.text) s the_pipeline q.0 p.0))
+one_way law one Update around (UpdatedSo r) (ValidText s) outcome other updates others before was after also files p q = absurd q
+one_way law one Update around (UpdatedSo r) (UpdatedSo s) outcome other updates others before was after also files p q = updated_both one around r s outcome other updates others before was after also files p.1 q.1 p.2 q.2 p.3 q.3
 
 -- ---- no failure on the way
 
@@ -220,9 +211,9 @@ last_part old mid new fine later = record {
   sink = λ r. fine.sink (rose-earlier old.faults.sink mid.faults.sink new.faults.sink later.sink r);
 }
 
-executes-later : (first : Command) (around : Around) (given : Status) (old mid : Standing) → Executes first around given old mid → NoneFalls old.faults mid.faults
-executes-later first around given old mid (inl does) = does.1.later
-executes-later first around given old mid (inr out) = out.later
+executes-later : (first : Command) (around : Around) (given : Status) (updates : List Ended) (old mid : Standing) → Executes first around given updates old mid → NoneFalls old.faults mid.faults
+executes-later first around given updates old mid (inl does) = does.1.later
+executes-later first around given updates old mid (inr out) = out.0.later
 
 none-falls : (a b c : Counts) → NoneFalls a b → NoneFalls b c → NoneFalls a c
 none-falls a b c p q = record { text = omega (arith, p.text, q.text); disk = omega (arith, p.disk, q.disk); landing = omega (arith, p.landing, q.landing); sink = omega (arith, p.sink, q.sink) }
@@ -230,12 +221,12 @@ none-falls a b c p q = record { text = omega (arith, p.text, q.text); disk = ome
 same-falls : (a : Counts) → NoneFalls a a
 same-falls a = record { text = omega arith; disk = omega arith; landing = omega arith; sink = omega arith }
 
-runs-later : (around : Around) (commands : List Command) (answer : Status) (old new : Standing) → Runs around commands answer old new → NoneFalls old.faults new.faults
-runs-later around [] answer old new runs = subst (λ (s : Standing). NoneFalls old.faults s.faults) (sym runs.1) (same-falls old.faults)
-runs-later around (first ∷ others) answer old new (mid, given, executes, inl more) =
-    none-falls old.faults mid.faults new.faults (executes-later first around given old mid executes) (runs-later around others answer mid new more.1)
-runs-later around (first ∷ others) answer old new (mid, given, executes, inr end) =
-    subst (λ (s : Standing). NoneFalls old.faults s.faults) (sym end.2) (executes-later first around given old mid executes)
+runs-later : (around : Around) (commands : List Command) (answer : Status) (updates : List Ended) (old new : Standing) → Runs around commands answer updates old new → NoneFalls old.faults new.faults
+runs-later around [] answer updates old new runs = subst (λ (s : Standing). NoneFalls old.faults s.faults) (sym runs.2) (same-falls old.faults)
+runs-later around (first ∷ others) answer updates old new (mid, given, own, rest, parts, executes, inl more) =
+    none-falls old.faults mid.faults new.faults (executes-later first around given own old mid executes) (runs-later around others answer rest mid new more.1)
+runs-later around (first ∷ others) answer updates old new (mid, given, own, rest, parts, executes, inr end) =
+    subst (λ (s : Standing). NoneFalls old.faults s.faults) (sym end.3) (executes-later first around given own old mid executes)
 
 -- ---- what was told
 
@@ -243,166 +234,201 @@ told : (outcome : Outcome) (answer : Status) (old new : Standing) → Tells outc
 told outcome answer old new (inl is) fine ne = is
 told outcome answer old new (inr cut) fine ne = absurd (elim cut.status [ inl sink ↦ fine.sink sink.1 | inr memory ↦ ne memory ])
 
-same_told : (outcome other : Outcome) (answer also : Status) (old was new far : Standing) → outcome ≡ other → old.printed ≡ was.printed → new.file ≡ far.file
-    → IsTold outcome answer old new → IsTold other also was far → SameEnd answer also new far
-same_told outcome other answer also old was new far same was_same files p q = record { answers = cc (p.status, q.status); file = files; printed = cc (p.line, q.line) }
+same_told : (outcome other : Outcome) (answer also : Status) (updates others : List Ended) (old was new far : Standing) → SameOutcome outcome other updates others new.file far.file → old.printed ≡ was.printed
+    → IsTold outcome answer old new → IsTold other also was far → SameEnd answer also updates others new far
+same_told outcome other answer also updates others old was new far same was_same p q =
+    let outcomes = same.outcomes in
+    record { answers = cc (p.status, q.status); printed = cc (p.line, q.line); tried = same.tried; files = λ ok. same.files (sym p.status ∙ ok) }
 
 -- ---- commands
 
-blameless : (outcome : Outcome) (old new : Standing) → NothingFailed old new → Blames old.faults new.faults outcome → IsBlameless outcome
-blameless TextFailed old new fine blames = fine.text blames
-blameless DiskFailed old new fine blames = fine.disk blames
-blameless LandingFailed old new fine blames = fine.landing blames
-blameless outcome old new fine blames = tt
+own_end : (end : UpdateEnd) (old new : Standing) → NothingFailed old new → BlamesOf old.faults new.faults end → (status_of_end end ≡ status.Memory → ⊥) → IsOwn end
+own_end ends.LoadFailed old new fine blames ne = fine.disk blames
+own_end ends.CommitFailed old new fine blames ne = fine.disk blames
+own_end ends.LandingFailed old new fine blames ne = fine.landing blames
+own_end ends.Memory old new fine blames ne = ne refl
+own_end _ old new fine blames ne = tt
 
-same_command : HasOneAnswer → (first : Command) (around : Around) (given also : Status) (old was mid far : Standing) → old.file ≡ was.file → old.printed ≡ was.printed
+blameless : (outcome : Outcome) (old new : Standing) → NothingFailed old new → Blames old.faults new.faults outcome → (status_of outcome ≡ status.Memory → ⊥) → IsBlameless outcome
+blameless TextFailed old new fine blames ne = fine.text blames
+blameless (Updated end) old new fine blames ne = own_end end old new fine blames ne
+blameless Usage old new fine blames ne = tt
+blameless (Refused refusal) old new fine blames ne = tt
+blameless NotSupported old new fine blames ne = tt
+blameless Valid old new fine blames ne = tt
+
+-- the way of a command that was told
+gone : (first : Command) (around : Around) (given : Status) (updates : List Ended) (outcome : Outcome) (old mid : Standing) → NothingFailed old mid → given ≢ status.Memory → IsTold outcome given old mid → Blames old.faults mid.faults outcome
+    → Comes first around outcome updates old.file mid.file → (way : Way) × Goes first around way outcome updates old.file mid.file
+gone first around given updates outcome old mid fine ne is blames comes =
+    way_of first around outcome updates old.file mid.file (blameless outcome old mid fine blames (λ memory. ne (is.status ∙ memory))) comes
+
+same_command : HasOneAnswer → HasOneEnd → (first : Command) (around : Around) (given also : Status) (updates others : List Ended) (old was mid far : Standing) → SameFile old.file was.file → old.printed ≡ was.printed
     → NothingFailed old mid → NothingFailed was far → given ≢ status.Memory → also ≢ status.Memory
-    → Executes first around given old mid → Executes first around also was far → SameEnd given also mid far
-same_command law first around given also old was mid far files prints fine fine_too ne ne_too (inr out) other = absurd (ne out.status)
-same_command law first around given also old was mid far files prints fine fine_too ne ne_too (inl does) (inr out) = absurd (ne_too out.status)
-same_command law first around given also old was mid far files prints fine fine_too ne ne_too (inl (outcome, does)) (inl (other, does_too)) =
-    let there : Comes first around other old.file far.file = subst (λ (file : List ℕ). Comes first around other file far.file) (sym files) does_too.comes in
-    let way = way_of first around outcome old.file mid.file (blameless outcome old mid fine does.blames) does.comes in
-    let route = way_of first around other old.file far.file (blameless other was far fine_too does_too.blames) there in
-    let same = one_way law first around old.file way.0 route.0 outcome other mid.file far.file way.1 route.1 in
-    same_told outcome other given also old was mid far same.0 prints same.1 (told outcome given old mid does.tells fine ne) (told other also was far does_too.tells fine_too ne_too)
+    → Executes first around given updates old mid → Executes first around also others was far → SameEnd given also updates others mid far
+same_command law one first around given also updates others old was mid far files prints fine fine_too ne ne_too (inr out) other = absurd (ne out.0.status)
+same_command law one first around given also updates others old was mid far files prints fine fine_too ne ne_too (inl does) (inr out) = absurd (ne_too out.0.status)
+same_command law one first around given also updates others old was mid far files prints fine fine_too ne ne_too (inl (outcome, does)) (inl (other, does_too)) =
+    let is = told outcome given old mid does.tells fine ne in
+    let is_too = told other also was far does_too.tells fine_too ne_too in
+    let way = gone first around given updates outcome old mid fine ne is does.blames does.comes in
+    let route = gone first around also others other was far fine_too ne_too is_too does_too.blames does_too.comes in
+    let same = one_way law one first around way.0 route.0 outcome other updates others old.file was.file mid.file far.file files way.1 route.1 in
+    same_told outcome other given also updates others old was mid far same prints is is_too
 
 is_ok : (given : Status) → given ≡ status.Ok → given ≢ status.Memory
-is_ok given ok memory = let no : status.Ok ≡ status.Memory = cc in cc
+is_ok given ok memory = let no : status.Ok ≡ status.Memory = sym ok ∙ memory in cc
 
-same_runs : HasOneAnswer → (around : Around) (commands : List Command) (answer other : Status) (old was new also : Standing) → old.file ≡ was.file → old.printed ≡ was.printed
+both_tried : (updates own more others own_too more_too : List Ended) → updates ≡ own ++ more → others ≡ own_too ++ more_too → tried_by own ≡ tried_by own_too → tried_by more ≡ tried_by more_too → tried_by updates ≡ tried_by others
+both_tried updates own more others own_too more_too parts parts_too first second =
+    ap tried_by parts ∙ tried_by_both own more ∙ ap (λ (front : List Payload). front ++ tried_by more) first ∙ ap (λ (behind : List Payload). tried_by own_too ++ behind) second ∙ sym (tried_by_both own_too more_too) ∙ sym (ap tried_by parts_too)
+
+same_runs : HasOneAnswer → HasOneEnd → (around : Around) (commands : List Command) (answer other : Status) (updates others : List Ended) (old was new also : Standing) → SameFile old.file was.file → old.printed ≡ was.printed
     → NothingFailed old new → NothingFailed was also → answer ≢ status.Memory → other ≢ status.Memory
-    → Runs around commands answer old new → Runs around commands other was also → SameEnd answer other new also
-same_runs law around [] answer other old was new also files prints fine fine_too ne ne_too p q =
-    record { answers = cc (p.0, q.0); file = cc (p.1, q.1, files); printed = cc (p.1, q.1, prints) }
-same_runs law around (first ∷ others) answer other old was new also files prints fine fine_too ne ne_too (mid, given, e, inl more) (far, given_too, e_too, inl more_too) =
-    let step = same_command law first around given given_too old was mid far files prints
-    (first_part old mid new fine (runs-later around others answer mid new more.1)) (first_part was far also fine_too (runs-later around others other far also more_too.1))
+    → Runs around commands answer updates old new → Runs around commands other others was also → SameEnd answer other updates others new also
+same_runs law one around [] answer other updates others old was new also files prints fine fine_too ne ne_too p q =
+    record {
+      answers = p.0 ∙ sym q.0;
+      printed = ap (λ (s : Standing). s.printed) p.2 ∙ prints ∙ sym (ap (λ (s : Standing). s.printed) q.2);
+      tried = ap tried_by p.1 ∙ sym (ap tried_by q.1);
+      files = λ ok. subst (λ (s : Standing). SameFile s.file also.file) (sym p.2) (subst (λ (s : Standing). SameFile old.file s.file) (sym q.2) files);
+    }
+same_runs law one around (first ∷ rest) answer other updates others old was new also files prints fine fine_too ne ne_too (mid, given, own, tail, parts, e, inl more) (far, given_too, own_too, tail_too, parts_too, e_too, inl more_too) =
+    let step = same_command law one first around given given_too own own_too old was mid far files prints
+    (first_part old mid new fine (runs-later around rest answer tail mid new more.1)) (first_part was far also fine_too (runs-later around rest other tail_too far also more_too.1))
     (is_ok given more.0) (is_ok given_too more_too.0) e e_too in
-    same_runs law around others answer other mid far new also step.file step.printed
-    (last_part old mid new fine (executes-later first around given old mid e)) (last_part was far also fine_too (executes-later first around given_too was far e_too))
-    ne ne_too more.1 more_too.1
-same_runs law around (first ∷ others) answer other old was new also files prints fine fine_too ne ne_too (mid, given, e, inl more) (far, given_too, e_too, inr end) =
-    let step = same_command law first around given given_too old was mid far files prints
-    (first_part old mid new fine (runs-later around others answer mid new more.1)) (subst (NothingFailed was) end.2 fine_too)
+    let after = same_runs law one around rest answer other tail tail_too mid far new also (step.files more.0) step.printed
+    (last_part old mid new fine (executes-later first around given own old mid e)) (last_part was far also fine_too (executes-later first around given_too own_too was far e_too))
+    ne ne_too more.1 more_too.1 in
+    record { answers = after.answers; printed = after.printed; tried = both_tried updates own tail others own_too tail_too parts parts_too step.tried after.tried; files = after.files }
+same_runs law one around (first ∷ rest) answer other updates others old was new also files prints fine fine_too ne ne_too (mid, given, own, tail, parts, e, inl more) (far, given_too, own_too, tail_too, parts_too, e_too, inr end) =
+    let step = same_command law one first around given given_too own own_too old was mid far files prints
+    (first_part old mid new fine (runs-later around rest answer tail mid new more.1)) (subst (NothingFailed was) end.3 fine_too)
     (is_ok given more.0) (λ m. ne_too (end.1 ∙ m)) e e_too in
     absurd (end.0 (sym step.answers ∙ more.0))
-same_runs law around (first ∷ others) answer other old was new also files prints fine fine_too ne ne_too (mid, given, e, inr end) (far, given_too, e_too, inl more_too) =
-    let step = same_command law first around given given_too old was mid far files prints
-    (subst (NothingFailed old) end.2 fine) (first_part was far also fine_too (runs-later around others other far also more_too.1))
+same_runs law one around (first ∷ rest) answer other updates others old was new also files prints fine fine_too ne ne_too (mid, given, own, tail, parts, e, inr end) (far, given_too, own_too, tail_too, parts_too, e_too, inl more_too) =
+    let step = same_command law one first around given given_too own own_too old was mid far files prints
+    (subst (NothingFailed old) end.3 fine) (first_part was far also fine_too (runs-later around rest other tail_too far also more_too.1))
     (λ m. ne (end.1 ∙ m)) (is_ok given_too more_too.0) e e_too in
     absurd (end.0 (step.answers ∙ more_too.0))
-same_runs law around (first ∷ others) answer other old was new also files prints fine fine_too ne ne_too (mid, given, e, inr end) (far, given_too, e_too, inr end_too) =
-    let step = same_command law first around given given_too old was mid far files prints
-    (subst (NothingFailed old) end.2 fine) (subst (NothingFailed was) end_too.2 fine_too)
+same_runs law one around (first ∷ rest) answer other updates others old was new also files prints fine fine_too ne ne_too (mid, given, own, tail, parts, e, inr end) (far, given_too, own_too, tail_too, parts_too, e_too, inr end_too) =
+    let step = same_command law one first around given given_too own own_too old was mid far files prints
+    (subst (NothingFailed old) end.3 fine) (subst (NothingFailed was) end_too.3 fine_too)
     (λ m. ne (end.1 ∙ m)) (λ m. ne_too (end_too.1 ∙ m)) e e_too in
     record {
       answers = end.1 ∙ (step.answers ∙ sym end_too.1);
-      file = ap (λ (s : Standing). s.file) end.2 ∙ (step.file ∙ ap (λ (s : Standing). s.file) (sym end_too.2));
-      printed = ap (λ (s : Standing). s.printed) end.2 ∙ (step.printed ∙ ap (λ (s : Standing). s.printed) (sym end_too.2));
+      printed = ap (λ (s : Standing). s.printed) end.3 ∙ (step.printed ∙ ap (λ (s : Standing). s.printed) (sym end_too.3));
+      tried = both_tried updates own tail others own_too tail_too parts parts_too step.tried (ap tried_by end.2 ∙ sym (ap tried_by end_too.2));
+      files = λ ok. absurd (end.0 (sym end.1 ∙ ok));
     }
 
 -- ---- whole runs
 
-same_refusal : (outcome : Outcome) (answer other : Status) (old new also : Standing) → NothingFailed old new → NothingFailed old also → answer ≢ status.Memory → other ≢ status.Memory
-    → Refuses outcome answer old new → Refuses outcome other old also → SameEnd answer other new also
-same_refusal outcome answer other old new also fine fine_too ne ne_too p q =
-    same_told outcome outcome answer other old old new also refl refl (p.file ∙ sym q.file) (told outcome answer old new p.tells fine ne) (told outcome other old also q.tells fine_too ne_too)
+same_refusal : (answer other : Status) (updates others : List Ended) (old new also : Standing) → NothingFailed old new → NothingFailed old also → answer ≢ status.Memory → other ≢ status.Memory
+    → Refuses Usage answer old new → updates ≡ [] → Refuses Usage other old also → others ≡ [] → SameEnd answer other updates others new also
+same_refusal answer other updates others old new also fine fine_too ne ne_too p none q none_too =
+    same_told Usage Usage answer other updates others old old new also (same_idle Usage Usage updates others old.file old.file new.file also.file refl (inl refl) (none, p.file) (none_too, q.file)) refl
+    (told Usage answer old new p.tells fine ne) (told Usage other old also q.tells fine_too ne_too)
 
-same_ran : HasOneAnswer → (asked : Option (List Command)) (around : Around) (answer other : Status) (old new also : Standing) → NothingFailed old new → NothingFailed old also → answer ≢ status.Memory → other ≢ status.Memory
-    → Ran asked around answer old new → Ran asked around other old also → SameEnd answer other new also
-same_ran law None around answer other old new also fine fine_too ne ne_too (inl p) (inl q) = same_refusal Usage answer other old new also fine fine_too ne ne_too p q
-same_ran law None around answer other old new also fine fine_too ne ne_too (inr out) q = absurd (ne out.status)
-same_ran law None around answer other old new also fine fine_too ne ne_too (inl p) (inr out) = absurd (ne_too out.status)
-same_ran law (Some commands) around answer other old new also fine fine_too ne ne_too (inl out) q = absurd (ne out.status)
-same_ran law (Some commands) around answer other old new also fine fine_too ne ne_too (inr p) (inl out) = absurd (ne_too out.status)
-same_ran law (Some commands) around answer other old new also fine fine_too ne ne_too (inr p) (inr q) =
-    same_runs law around commands answer other old old new also refl refl fine fine_too ne ne_too p q
+same_ran : HasOneAnswer → HasOneEnd → (asked : Option (List Command)) (around : Around) (answer other : Status) (updates others : List Ended) (old new also : Standing) → NothingFailed old new → NothingFailed old also
+    → answer ≢ status.Memory → other ≢ status.Memory → Ran asked around answer updates old new → Ran asked around other others old also → SameEnd answer other updates others new also
+same_ran law one None around answer other updates others old new also fine fine_too ne ne_too (inl p, none) (inl q, none_too) = same_refusal answer other updates others old new also fine fine_too ne ne_too p none q none_too
+same_ran law one None around answer other updates others old new also fine fine_too ne ne_too (inr out, none) q = absurd (ne out.status)
+same_ran law one None around answer other updates others old new also fine fine_too ne ne_too (inl p, none) (inr out, none_too) = absurd (ne_too out.status)
+same_ran law one (Some commands) around answer other updates others old new also fine fine_too ne ne_too (inl out) q = absurd (ne out.0.status)
+same_ran law one (Some commands) around answer other updates others old new also fine fine_too ne ne_too (inr p) (inl out) = absurd (ne_too out.0.status)
+same_ran law one (Some commands) around answer other updates others old new also fine fine_too ne ne_too (inr p) (inr q) =
+    same_runs law one around commands answer other updates others old old new also (inl refl) refl fine fine_too ne ne_too p q
 
-pub one_end : HasOneAnswer → (asked : Option (List Command)) (around : Around) (answer other : Status) (old new also : Standing) → RanWell asked around answer old new → RanWell asked around other old also → SameEnd answer other new also
-one_end law asked around answer other old new also p q = same_ran law asked around answer other old new also p.fine q.fine p.memory q.memory p.ran q.ran
+pub one_end : HasOneAnswer → HasOneEnd → (asked : Option (List Command)) (around : Around) (answer other : Status) (updates others : List Ended) (old new also : Standing) → RanWell asked around answer updates old new → RanWell asked around other others old also
+    → SameEnd answer other updates others new also
+one_end law one asked around answer other updates others old new also p q = same_ran law one asked around answer other updates others old new also p.fine q.fine p.memory q.memory p.ran q.ran
 
 -- ---- commands that have nothing to refuse
 
-ok_of_forms : (around : Around) (file after : List ℕ) (store : Store) (given : Status) (outcome : Outcome) → NothingRefused around file store → (form : Form) → IsOfForm (found_by around file) form outcome after
-    → given ≡ status_of outcome → given ≡ status.Ok
-ok_of_forms around file after store given outcome none IsForeign is e = absurd (let h = none.holds in let no : None ≡ Some store = sym is.0 ∙ h in cc)
-ok_of_forms around file after store given outcome none (HasShrunk s l) is e =
-    let same : s ≡ store = (let h : Some s ≡ Some store = sym is.0 ∙ none.holds in cc) in
-    absurd (let no : Some l ≡ None = sym is.1 ∙ (ap (shrunk (found_by around file)) same ∙ none.none_shrank) in cc)
-ok_of_forms around file after store given outcome none (IsCurrent s) is e = e ∙ ap status_of is.3
-ok_of_forms around file after store given outcome none (IsFull s) is e =
-    let same : s ≡ store = (let h : Some s ≡ Some store = sym is.0 ∙ none.holds in cc) in
-    absurd (too_long (found_by around file) s store same is.3 none.fits)
-ok_of_forms around file after store given outcome none (IsDone s) is e = e ∙ ap status_of is.4
+ok_of_success : (end : UpdateEnd) → IsSuccess end → status_of_end end ≡ status.Ok
+ok_of_success ends.Current well = refl
+ok_of_success (ends.Completed read version) well = refl
+ok_of_success _ well = absurd well
 
-ok_of_update_way : HasOneAnswer → (around : Around) (file after : List ℕ) (store : Store) (given : Status) (outcome : Outcome) → NothingRefused around file store → (way : Way) → Goes Update around file way outcome after
+ok_of_ended : Succeeds → (around : Around) (file after : List ℕ) (end : UpdateEnd) (updates : List Ended) → NothingRefused around file → IsOwn end → IsUpdate around end updates file after → status_of (Updated end) ≡ status.Ok
+ok_of_ended succeeds around file after end updates none own (ended, is, same, with_it) =
+    let own_too : IsOwn ended.end = subst IsOwn (sym same) own in
+    ok_of_success end (subst IsSuccess same (succeeds the_table (found_by around file) ended.loaded ended.acked ended.tried ended.end (with_it.small (not_failed ended.end own_too)) with_it.updates own_too none.takes))
+
+ok_of_update_way : HasOneAnswer → Succeeds → (around : Around) (file after : List ℕ) (updates : List Ended) (given : Status) (outcome : Outcome) → NothingRefused around file → (way : Way) → Goes Update around way outcome updates file after
     → given ≡ status_of outcome → given ≡ status.Ok
 unfolding HasStatements
-ok_of_update_way law around file after store given outcome none (RefusedText r) is e = absurd (law.apart (take text_limit around.text) the_pipeline r none.accepted is.0)
-ok_of_update_way law around file after store given outcome none (OtherText s) is e = absurd (is.1 (law.one (take text_limit around.text) s the_pipeline is.0 none.accepted))
-ok_of_update_way law around file after store given outcome none (ValidText s) is e = absurd is
-ok_of_update_way law around file after store given outcome none (Updated form) is e = ok_of_forms around file after store given outcome none form is.1 e
+ok_of_update_way law succeeds around file after updates given outcome none (RefusedText r) is e = absurd (law.apart (take text_limit around.text) the_pipeline r none.accepted is.0)
+ok_of_update_way law succeeds around file after updates given outcome none (OtherText s) is e = absurd (is.1 (law.one (take text_limit around.text) s the_pipeline is.0 none.accepted))
+ok_of_update_way law succeeds around file after updates given outcome none (ValidText s) is e = absurd is
+ok_of_update_way law succeeds around file after updates given outcome none (UpdatedSo end) is e = e ∙ ap status_of is.1 ∙ ok_of_ended succeeds around file after end updates none is.2 is.3
 
-ok_of_update : HasOneAnswer → (around : Around) (old mid : Standing) (store : Store) (given : Status) → NothingRefused around old.file store → NothingFailed old mid → given ≢ status.Memory → Executes Update around given old mid → given ≡ status.Ok
-ok_of_update law around old mid store given none fine ne (inr out) = absurd (ne out.status)
-ok_of_update law around old mid store given none fine ne (inl (outcome, does)) =
-    let way = way_of Update around outcome old.file mid.file (blameless outcome old mid fine does.blames) does.comes in
-    ok_of_update_way law around old.file mid.file store given outcome none way.0 way.1 (told outcome given old mid does.tells fine ne).status
+ok_of_update : HasOneAnswer → Succeeds → (around : Around) (updates : List Ended) (old mid : Standing) (given : Status) → NothingRefused around old.file → NothingFailed old mid → given ≢ status.Memory → Executes Update around given updates old mid → given ≡ status.Ok
+ok_of_update law succeeds around updates old mid given none fine ne (inr out) = absurd (ne out.0.status)
+ok_of_update law succeeds around updates old mid given none fine ne (inl (outcome, does)) =
+    let is = told outcome given old mid does.tells fine ne in
+    let way = gone Update around given updates outcome old mid fine ne is does.blames does.comes in
+    ok_of_update_way law succeeds around old.file mid.file updates given outcome none way.0 way.1 is.status
 
-ok_of_validate_way : HasOneAnswer → (around : Around) (file after : List ℕ) (statements : List Statement) (given : Status) (outcome : Outcome) → HasStatements around.text statements → (way : Way) → Goes Validate around file way outcome after
+ok_of_validate_way : HasOneAnswer → (around : Around) (file after : List ℕ) (updates : List Ended) (statements : List Statement) (given : Status) (outcome : Outcome) → HasStatements around.text statements → (way : Way) → Goes Validate around way outcome updates file after
     → given ≡ status_of outcome → given ≡ status.Ok
 unfolding HasStatements
-ok_of_validate_way law around file after statements given outcome has (RefusedText r) is e = absurd (law.apart (take text_limit around.text) statements r has is.0)
-ok_of_validate_way law around file after statements given outcome has (OtherText s) is e = absurd is
-ok_of_validate_way law around file after statements given outcome has (ValidText s) is e = e ∙ ap status_of is.1
-ok_of_validate_way law around file after statements given outcome has (Updated form) is e = absurd is
+ok_of_validate_way law around file after updates statements given outcome has (RefusedText r) is e = absurd (law.apart (take text_limit around.text) statements r has is.0)
+ok_of_validate_way law around file after updates statements given outcome has (OtherText s) is e = absurd is
+ok_of_validate_way law around file after updates statements given outcome has (ValidText s) is e = e ∙ ap status_of is.1
+ok_of_validate_way law around file after updates statements given outcome has (UpdatedSo end) is e = absurd is
 
-ok_of_validate : HasOneAnswer → (around : Around) (old mid : Standing) (statements : List Statement) (given : Status) → HasStatements around.text statements → NothingFailed old mid → given ≢ status.Memory → Executes Validate around given old mid → given ≡ status.Ok
-ok_of_validate law around old mid statements given has fine ne (inr out) = absurd (ne out.status)
-ok_of_validate law around old mid statements given has fine ne (inl (outcome, does)) =
-    let way = way_of Validate around outcome old.file mid.file (blameless outcome old mid fine does.blames) does.comes in
-    ok_of_validate_way law around old.file mid.file statements given outcome has way.0 way.1 (told outcome given old mid does.tells fine ne).status
+ok_of_validate : HasOneAnswer → (around : Around) (updates : List Ended) (old mid : Standing) (statements : List Statement) (given : Status) → HasStatements around.text statements → NothingFailed old mid → given ≢ status.Memory → Executes Validate around given updates old mid
+    → given ≡ status.Ok
+ok_of_validate law around updates old mid statements given has fine ne (inr out) = absurd (ne out.0.status)
+ok_of_validate law around updates old mid statements given has fine ne (inl (outcome, does)) =
+    let is = told outcome given old mid does.tells fine ne in
+    let way = gone Validate around given updates outcome old mid fine ne is does.blames does.comes in
+    ok_of_validate_way law around old.file mid.file updates statements given outcome has way.0 way.1 is.status
 
-kept_by_way : (around : Around) (file after : List ℕ) (outcome : Outcome) (way : Way) → Goes Validate around file way outcome after → after ≡ file
-kept_by_way around file after outcome (RefusedText r) is = is.2
-kept_by_way around file after outcome (OtherText s) is = absurd is
-kept_by_way around file after outcome (ValidText s) is = is.2
-kept_by_way around file after outcome (Updated form) is = absurd is
+kept_by_way : (around : Around) (file after : List ℕ) (updates : List Ended) (outcome : Outcome) (way : Way) → Goes Validate around way outcome updates file after → after ≡ file
+kept_by_way around file after updates outcome (RefusedText r) is = is.2.1
+kept_by_way around file after updates outcome (OtherText s) is = absurd is
+kept_by_way around file after updates outcome (ValidText s) is = is.2.1
+kept_by_way around file after updates outcome (UpdatedSo end) is = absurd is
 
-kept_by_validate : (around : Around) (old mid : Standing) (given : Status) → NothingFailed old mid → Executes Validate around given old mid → mid.file ≡ old.file
-kept_by_validate around old mid given fine (inr out) = out.file
-kept_by_validate around old mid given fine (inl (outcome, does)) =
-    let way = way_of Validate around outcome old.file mid.file (blameless outcome old mid fine does.blames) does.comes in
-    kept_by_way around old.file mid.file outcome way.0 way.1
+kept_by_validate : (around : Around) (updates : List Ended) (old mid : Standing) (given : Status) → NothingFailed old mid → given ≢ status.Memory → Executes Validate around given updates old mid → mid.file ≡ old.file
+kept_by_validate around updates old mid given fine ne (inr out) = out.0.file
+kept_by_validate around updates old mid given fine ne (inl (outcome, does)) =
+    let is = told outcome given old mid does.tells fine ne in
+    let way = gone Validate around given updates outcome old mid fine ne is does.blames does.comes in
+    kept_by_way around old.file mid.file updates outcome way.0 way.1
 
-ok_of_validates : HasOneAnswer → (commands : List Command) (around : Around) (answer : Status) (old new : Standing) (statements : List Statement) → AreValidates commands → HasStatements around.text statements → NothingFailed old new → answer ≢ status.Memory
-    → Runs around commands answer old new → answer ≡ status.Ok
-ok_of_validates law [] around answer old new statements are has fine ne runs = runs.0
-ok_of_validates law (Update ∷ others) around answer old new statements are has fine ne runs = absurd are
-ok_of_validates law (Validate ∷ others) around answer old new statements are has fine ne (mid, given, executes, inl more) =
-    ok_of_validates law others around answer mid new statements are has (last_part old mid new fine (executes-later Validate around given old mid executes)) ne more.1
-ok_of_validates law (Validate ∷ others) around answer old new statements are has fine ne (mid, given, executes, inr end) =
-    absurd (end.0 (ok_of_validate law around old mid statements given has (subst (NothingFailed old) end.2 fine) (λ m. ne (end.1 ∙ m)) executes))
+ok_of_validates : HasOneAnswer → (commands : List Command) (around : Around) (answer : Status) (updates : List Ended) (old new : Standing) (statements : List Statement) → AreValidates commands → HasStatements around.text statements → NothingFailed old new
+    → answer ≢ status.Memory → Runs around commands answer updates old new → answer ≡ status.Ok
+ok_of_validates law [] around answer updates old new statements are has fine ne runs = runs.0
+ok_of_validates law (Update ∷ others) around answer updates old new statements are has fine ne runs = absurd are
+ok_of_validates law (Validate ∷ others) around answer updates old new statements are has fine ne (mid, given, own, tail, parts, executes, inl more) =
+    ok_of_validates law others around answer tail mid new statements are has (last_part old mid new fine (executes-later Validate around given own old mid executes)) ne more.1
+ok_of_validates law (Validate ∷ others) around answer updates old new statements are has fine ne (mid, given, own, tail, parts, executes, inr end) =
+    absurd (end.0 (ok_of_validate law around own old mid statements given has (subst (NothingFailed old) end.3 fine) (λ m. ne (end.1 ∙ m)) executes))
 
-ok_of_one_update : HasOneAnswer → (commands : List Command) (around : Around) (answer : Status) (old new : Standing) (store : Store) → HaveOneUpdate commands → NothingRefused around old.file store → NothingFailed old new → answer ≢ status.Memory
-    → Runs around commands answer old new → answer ≡ status.Ok
-ok_of_one_update law [] around answer old new store have none fine ne runs = absurd have
-ok_of_one_update law (Validate ∷ others) around answer old new store have none fine ne (mid, given, executes, inl more) =
-    let kept = kept_by_validate around old mid given (first_part old mid new fine (runs-later around others answer mid new more.1)) executes in
-    ok_of_one_update law others around answer mid new store have (subst (λ (file : List ℕ). NothingRefused around file store) (sym kept) none)
-    (last_part old mid new fine (executes-later Validate around given old mid executes)) ne more.1
-ok_of_one_update law (Validate ∷ others) around answer old new store have none fine ne (mid, given, executes, inr end) =
-    absurd (end.0 (ok_of_validate law around old mid the_pipeline given none.accepted (subst (NothingFailed old) end.2 fine) (λ m. ne (end.1 ∙ m)) executes))
-ok_of_one_update law (Update ∷ others) around answer old new store have none fine ne (mid, given, executes, inl more) =
-    ok_of_validates law others around answer mid new the_pipeline have none.accepted (last_part old mid new fine (executes-later Update around given old mid executes)) ne more.1
-ok_of_one_update law (Update ∷ others) around answer old new store have none fine ne (mid, given, executes, inr end) =
-    absurd (end.0 (ok_of_update law around old mid store given none (subst (NothingFailed old) end.2 fine) (λ m. ne (end.1 ∙ m)) executes))
+ok_of_one_update : HasOneAnswer → Succeeds → (commands : List Command) (around : Around) (answer : Status) (updates : List Ended) (old new : Standing) → HaveOneUpdate commands → NothingRefused around old.file → NothingFailed old new → answer ≢ status.Memory
+    → Runs around commands answer updates old new → answer ≡ status.Ok
+ok_of_one_update law succeeds [] around answer updates old new have none fine ne runs = absurd have
+ok_of_one_update law succeeds (Validate ∷ others) around answer updates old new have none fine ne (mid, given, own, tail, parts, executes, inl more) =
+    let kept = kept_by_validate around own old mid given (first_part old mid new fine (runs-later around others answer tail mid new more.1)) (is_ok given more.0) executes in
+    ok_of_one_update law succeeds others around answer tail mid new have (subst (λ (file : List ℕ). NothingRefused around file) (sym kept) none)
+    (last_part old mid new fine (executes-later Validate around given own old mid executes)) ne more.1
+ok_of_one_update law succeeds (Validate ∷ others) around answer updates old new have none fine ne (mid, given, own, tail, parts, executes, inr end) =
+    absurd (end.0 (ok_of_validate law around own old mid the_pipeline given none.accepted (subst (NothingFailed old) end.3 fine) (λ m. ne (end.1 ∙ m)) executes))
+ok_of_one_update law succeeds (Update ∷ others) around answer updates old new have none fine ne (mid, given, own, tail, parts, executes, inl more) =
+    ok_of_validates law others around answer tail mid new the_pipeline have none.accepted (last_part old mid new fine (executes-later Update around given own old mid executes)) ne more.1
+ok_of_one_update law succeeds (Update ∷ others) around answer updates old new have none fine ne (mid, given, own, tail, parts, executes, inr end) =
+    absurd (end.0 (ok_of_update law succeeds around own old mid given none (subst (NothingFailed old) end.3 fine) (λ m. ne (end.1 ∙ m)) executes))
 
-pub ok_where_nothing_is_refused : HasOneAnswer → (commands : List Command) (around : Around) (answer : Status) (old new : Standing) (store : Store) → HaveOneUpdate commands → RanWell (Some commands) around answer old new → NothingRefused around old.file store → answer ≡ status.Ok
-ok_where_nothing_is_refused law commands around answer old new store have well none =
-    elim well.ran [ inl out ↦ absurd (well.memory out.status) | inr runs ↦ ok_of_one_update law commands around answer old new store have none well.fine well.memory runs ]
+pub ok_where_nothing_is_refused : HasOneAnswer → Succeeds → (commands : List Command) (around : Around) (answer : Status) (updates : List Ended) (old new : Standing) → HaveOneUpdate commands → RanWell (Some commands) around answer updates old new
+    → NothingRefused around old.file → answer ≡ status.Ok
+ok_where_nothing_is_refused law succeeds commands around answer updates old new have well none =
+    elim well.ran [ inl out ↦ absurd (well.memory out.0.status) | inr runs ↦ ok_of_one_update law succeeds commands around answer updates old new have none well.fine well.memory runs ]
 
-pub ok_where_the_text_reads : HasOneAnswer → (commands : List Command) (around : Around) (answer : Status) (old new : Standing) (statements : List Statement) → AreValidates commands → RanWell (Some commands) around answer old new → HasStatements around.text statements → answer ≡ status.Ok
-ok_where_the_text_reads law commands around answer old new statements are well has =
-    elim well.ran [ inl out ↦ absurd (well.memory out.status) | inr runs ↦ ok_of_validates law commands around answer old new statements are has well.fine well.memory runs ]
+pub ok_where_the_text_reads : HasOneAnswer → (commands : List Command) (around : Around) (answer : Status) (updates : List Ended) (old new : Standing) (statements : List Statement) → AreValidates commands → RanWell (Some commands) around answer updates old new
+    → HasStatements around.text statements → answer ≡ status.Ok
+ok_where_the_text_reads law commands around answer updates old new statements are well has =
+    elim well.ran [ inl out ↦ absurd (well.memory out.0.status) | inr runs ↦ ok_of_validates law commands around answer updates old new statements are has well.fine well.memory runs ]

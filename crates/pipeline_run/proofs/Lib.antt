@@ -1,6 +1,7 @@
+pub mod CrashLemmas
 pub mod EndLemmas
-pub mod LineLemmas
-pub mod PlaceLemmas
+pub mod LeaveLemmas
 pub mod RunLemmas
 pub mod TextLemmas
+pub mod UpdateLemmas
 pub mod WordLemmas

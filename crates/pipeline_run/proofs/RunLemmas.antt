@@ -1,20 +1,29 @@
 -- How a command comes to an outcome, and how commands go on, one after the other.
-use Rattle.std.proofs.Common.{◌≡◌, ◌≢◌, inl, inr, ℕ, ◌+◌, ◌<◌, ◌≤◌, List, ◌∷◌, length, get_or, drop, refl, sym, ap, subst, ◌∙◌, Option, Some, None, Result, Ok, Err, IfOk, false, not}
+use Rattle.std.proofs.Common.{◌≡◌, ◌≢◌, inl, inr, ℕ, ◌+◌, ◌<◌, ◌≤◌, List, [], ◌∷◌, ◌++◌, length, get_or, drop, take, append-nil, append_assoc, refl, sym, ap, subst, ◌∙◌, Option, Some, None, Result, Ok, Err, IfOk, false, not, arith}
 use Rattle.std.proofs.lemmas.List.{drop_more, drop_all}
 use denote.Enum.Bare.{sameb}
 use Rattle.disk_model.specs.Faults.{Rose}
+use Rattle.disk_model.specs.Disk.{DiskState}
+use Rattle.sql_tokens.specs.declared.error.SqlRefusal.{SqlRefusal}
 use Rattle.sql_tree.specs.declared.statement.Statement.{Statement}
+use Rattle.pipeline_sql.specs.Read.{IsRefused}
+use Rattle.table_update.specs.declared.end.UpdateEnd.{UpdateEnd}
+use Rattle.table_update.specs.declared.end.UpdateEnd.TheVariants as ends
+use Rattle.table_update.specs.Update.{IsSuccess}
 use Rattle.pipeline_run.specs.declared.command.Command.{Command}
 use Rattle.pipeline_run.specs.declared.command.Command.TheVariants.{Validate, Update}
 use Rattle.pipeline_run.specs.declared.outcome.Outcome.{Outcome}
-use Rattle.pipeline_run.specs.declared.outcome.Outcome.TheVariants.{Usage, TextFailed, Refused, NotSupported, Valid, Foreign, Full, DiskFailed, Completed, Current, Shrunk, LandingFailed}
+use Rattle.pipeline_run.specs.declared.outcome.Outcome.TheVariants.{Usage, TextFailed, Refused, NotSupported, Valid, Updated}
 use Rattle.pipeline_run.specs.contracts.outcome.Status.{the_type}
 use Rattle.pipeline_run.specs.declared.outcome.Status.{Status}
 use Rattle.pipeline_run.specs.declared.outcome.Status.TheVariants as status
-use Rattle.pipeline_run.specs.Pipeline.{the_pipeline, HasStatements, Knows}
-use Rattle.pipeline_run.specs.Run.{Around, Counts, Standing, Comes, Blames, Executes, Runs, Refuses, Ran, IsTelling, IsOfCommands, AnswersUsage}
+use Rattle.pipeline_run.specs.Pipeline.{the_pipeline, text_limit, HasStatements, Knows}
+use Rattle.pipeline_run.specs.Crash.{HasOutcome, HasExecuted, HasRunAll, HasRun}
+use Rattle.pipeline_run.specs.Run.{Around, found_by, IsIdle, IsUpdate, Counts, NoneFalls, Standing, Comes, Blames, BlamesOf, Tells, Does, RunsOut, Executes, Runs, Refuses, Ran, IsTelling, IsOfCommands, AnswersUsage}
 use Rattle.pipeline_run.specs.Report.{status_of}
-use Rattle.pipeline_run.specs.Update.{Found, Updates, IsOfUpdate}
+use Rattle.pipeline_run.specs.Update.{Ended, acked_by, loaded_by}
+use Rattle.pipeline_run.proofs.CrashLemmas.{WentWell, SoFar, at_start, all_left, no_updates, leaves_on, well_on}
+use Rattle.pipeline_run.proofs.UpdateLemmas.{unloaded_acked, one_went_well, none_went_well}
 
 -- ---- the text
 
@@ -32,50 +41,67 @@ kept_if_ok (Ok outcome) fact holds = λ ok. holds
 
 -- ---- one command
 
-pub comes_of_validate : (command : Command) (around : Around) (statements : List Statement) (file : List ℕ) → command ≡ Validate → HasStatements around.text statements → Comes command around Valid file file
-comes_of_validate Validate around statements file is has = ((statements, has), refl)
-comes_of_validate Update around statements file is has = absurd cc
+pub outcome_of_validate : (timed : Type 0) (command : Command) (around : Around) (statements : List Statement) (disk : DiskState) → command ≡ Validate → HasStatements around.text statements → HasOutcome timed command around Valid disk disk
+outcome_of_validate timed Validate around statements disk is has = record { updates = []; comes = ((statements, has), (refl, refl)); leaves = no_updates timed disk }
+outcome_of_validate timed Update around statements disk is has = absurd cc
 
-pub comes_of_other : (command : Command) (around : Around) (statements : List Statement) (file : List ℕ) → command ≡ Update → HasStatements around.text statements → statements ≢ the_pipeline → Comes command around NotSupported file file
-comes_of_other Validate around statements file is has other = absurd cc
-comes_of_other Update around statements file is has other = ((statements, has, other), refl)
+pub outcome_of_other : (timed : Type 0) (command : Command) (around : Around) (statements : List Statement) (disk : DiskState) → command ≡ Update → HasStatements around.text statements → statements ≢ the_pipeline → HasOutcome timed command around NotSupported disk disk
+outcome_of_other timed Validate around statements disk is has other = absurd cc
+outcome_of_other timed Update around statements disk is has other = record { updates = []; comes = ((statements, has, other), (refl, refl)); leaves = no_updates timed disk }
 
-abbrev pub found_by : Around → List ℕ → Found
-found_by around file = record { file = file; room = around.room; landing = around.landing }
+pub outcome_unread : (timed : Type 0) (command : Command) (around : Around) (disk : DiskState) → HasOutcome timed command around TextFailed disk disk
+outcome_unread timed command around disk = record { updates = []; comes = (refl, refl); leaves = no_updates timed disk }
 
-update_comes : (around : Around) (outcome : Outcome) (before after : List ℕ) → HasStatements around.text the_pipeline → IsOfUpdate outcome → Updates (found_by around before) outcome after → Comes Update around outcome before after
-update_comes around Usage before after has own updates = absurd own
-update_comes around TextFailed before after has own updates = absurd own
-update_comes around (Refused refusal) before after has own updates = absurd own
-update_comes around NotSupported before after has own updates = absurd own
-update_comes around Valid before after has own updates = absurd own
-update_comes around (Foreign len) before after has own updates = (has, updates)
-update_comes around (Full end room) before after has own updates = (has, updates)
-update_comes around DiskFailed before after has own updates = (has, updates)
-update_comes around (Completed read version) before after has own updates = (has, updates)
-update_comes around Current before after has own updates = (has, updates)
-update_comes around (Shrunk file cursor size) before after has own updates = (has, updates)
-update_comes around LandingFailed before after has own updates = (has, updates)
+pub outcome_refused : (timed : Type 0) (command : Command) (around : Around) (refusal : SqlRefusal) (disk : DiskState) → IsRefused (take text_limit around.text) refusal → HasOutcome timed command around (Refused refusal) disk disk
+outcome_refused timed command around refusal disk is = record { updates = []; comes = (is, (refl, refl)); leaves = no_updates timed disk }
 
-pub comes_of_update : {E : Type 0} (command : Command) (around : Around) (statements : List Statement) (result : Result Outcome E) (before after : List ℕ) → command ≡ Update → HasStatements around.text statements → statements ≡ the_pipeline
-    → IfOk result IsOfUpdate → IfOk result (λ outcome. Updates (found_by around before) outcome after) → IfOk result (λ outcome. Comes command around outcome before after)
-comes_of_update Validate around statements result before after is has same own updates = absurd cc
-comes_of_update Update around statements (Err e) before after is has same own updates = tt
-comes_of_update Update around statements (Ok outcome) before after is has same own updates = update_comes around outcome before after (subst (HasStatements around.text) same has) own updates
+blames_of : (before now : Counts) (end : UpdateEnd) → (end ≡ ends.LoadFailed → Rose before.disk now.disk) → (end ≡ ends.CommitFailed → Rose before.disk now.disk) → (end ≡ ends.LandingFailed → Rose before.landing now.landing) → BlamesOf before now end
+blames_of before now ends.LoadFailed load commit landing = load refl
+blames_of before now ends.CommitFailed load commit landing = commit refl
+blames_of before now ends.LandingFailed load commit landing = landing refl
+blames_of before now _ load commit landing = tt
 
-pub blames : (before now : Counts) (outcome : Outcome) → (outcome ≡ TextFailed → Rose before.text now.text) → (outcome ≡ DiskFailed → Rose before.disk now.disk) → (outcome ≡ LandingFailed → Rose before.landing now.landing) → Blames before now outcome
-blames before now Usage text disk landing = tt
-blames before now TextFailed text disk landing = text refl
-blames before now (Refused refusal) text disk landing = tt
-blames before now NotSupported text disk landing = tt
-blames before now Valid text disk landing = tt
-blames before now (Foreign len) text disk landing = tt
-blames before now (Full end room) text disk landing = tt
-blames before now DiskFailed text disk landing = disk refl
-blames before now (Completed read version) text disk landing = tt
-blames before now Current text disk landing = tt
-blames before now (Shrunk file cursor size) text disk landing = tt
-blames before now LandingFailed text disk landing = landing refl
+pub blames : (before now : Counts) (outcome : Outcome) → (outcome ≡ TextFailed → Rose before.text now.text) → (outcome ≡ Updated ends.LoadFailed → Rose before.disk now.disk)
+    → (outcome ≡ Updated ends.CommitFailed → Rose before.disk now.disk) → (outcome ≡ Updated ends.LandingFailed → Rose before.landing now.landing) → Blames before now outcome
+blames before now Usage text load commit landing = tt
+blames before now TextFailed text load commit landing = text refl
+blames before now (Refused refusal) text load commit landing = tt
+blames before now NotSupported text load commit landing = tt
+blames before now Valid text load commit landing = tt
+blames before now (Updated end) text load commit landing = blames_of before now end (λ e. load (ap Updated e)) (λ e. commit (ap Updated e)) (λ e. landing (ap Updated e))
+
+-- an end whose status blames the disk is one of two
+disk_end : (end : UpdateEnd) (fact : Type 0) → status.Disk ≡ status_of (Updated end) → (end ≡ ends.LoadFailed → fact) → (end ≡ ends.CommitFailed → fact) → fact
+disk_end ends.LoadFailed fact is load commit = load refl
+disk_end ends.CommitFailed fact is load commit = commit refl
+disk_end _ fact is load commit = absurd cc
+
+disk_outcome : (outcome : Outcome) (fact : Type 0) → status.Disk ≡ status_of outcome → (outcome ≡ Updated ends.LoadFailed → fact) → (outcome ≡ Updated ends.CommitFailed → fact) → fact
+disk_outcome Usage fact is load commit = absurd cc
+disk_outcome TextFailed fact is load commit = absurd cc
+disk_outcome (Refused refusal) fact is load commit = absurd cc
+disk_outcome NotSupported fact is load commit = absurd cc
+disk_outcome Valid fact is load commit = absurd cc
+disk_outcome (Updated end) fact is load commit = disk_end end fact is (λ e. load (ap Updated e)) (λ e. commit (ap Updated e))
+
+pub told_disk : (outcome : Outcome) (answer : Status) (fact : Type 0) → IsTelling outcome answer → answer ≡ status.Disk → (outcome ≡ Updated ends.LoadFailed → fact) → (outcome ≡ Updated ends.CommitFailed → fact) → fact
+told_disk outcome status.Disk fact telling is load commit = disk_outcome outcome fact telling load commit
+told_disk outcome status.Ok fact telling is load commit = absurd cc
+told_disk outcome status.Usage fact telling is load commit = absurd cc
+told_disk outcome status.Pipeline fact telling is load commit = absurd cc
+told_disk outcome status.Store fact telling is load commit = absurd cc
+told_disk outcome status.Sink fact telling is load commit = absurd cc
+told_disk outcome status.Text fact telling is load commit = absurd cc
+told_disk outcome status.Stopped fact telling is load commit = absurd cc
+told_disk outcome status.Memory fact telling is load commit = absurd cc
+
+-- memory ran out before there was an outcome
+pub ran_out : (timed : Type 0) (command : Command) (around : Around) (old new : Standing) (disk : DiskState) → new.file ≡ old.file → new.printed ≡ old.printed → NoneFalls old.faults new.faults → HasExecuted timed command around status.Memory old new disk disk
+ran_out timed command around old new disk file printed later = record {
+  updates = [];
+  executes = inr (record { status = refl; file = file; printed = printed; later = later }, refl);
+  leaves = no_updates timed disk;
+}
 
 pub is_ok_of : (answer : Status) → false ≡ not (sameb the_type answer status.Ok) → answer ≡ status.Ok
 is_ok_of status.Ok same = refl
@@ -100,25 +126,128 @@ told_ok outcome status.Text telling is = absurd cc
 told_ok outcome status.Stopped telling is = absurd cc
 told_ok outcome status.Memory telling is = absurd cc
 
+-- ---- the updates of a command
+
+pub success : (end : UpdateEnd) → status_of (Updated end) ≡ status.Ok → IsSuccess end
+success ends.Current ok = tt
+success (ends.Completed read version) ok = tt
+success _ ok = absurd cc
+
+ended_well : (around : Around) (end : UpdateEnd) (updates : List Ended) (before after : List ℕ) → status_of (Updated end) ≡ status.Ok → IsUpdate around end updates before after → WentWell updates before after
+ended_well around end updates before after ok (ended, is, same, with_it) =
+    subst (λ (list : List Ended). WentWell list before after) (sym is)
+    (one_went_well (found_by around before) ended after with_it (subst IsSuccess (sym same) (success end ok)))
+
+idled_well : (updates : List Ended) (before after : List ℕ) → IsIdle updates before after → WentWell updates before after
+idled_well updates before after idle =
+    subst (λ (list : List Ended). WentWell list before after) (sym idle.0)
+    (subst (λ (bytes : List ℕ). WentWell [] before bytes) (sym idle.1) (none_went_well before))
+
+came_well : (command : Command) (around : Around) (outcome : Outcome) (updates : List Ended) (before after : List ℕ) → status_of outcome ≡ status.Ok → Comes command around outcome updates before after → WentWell updates before after
+came_well Validate around Valid updates before after ok comes = idled_well updates before after comes.1
+came_well Validate around Usage updates before after ok comes = absurd cc
+came_well Validate around TextFailed updates before after ok comes = absurd cc
+came_well Validate around (Refused refusal) updates before after ok comes = absurd cc
+came_well Validate around NotSupported updates before after ok comes = absurd cc
+came_well Validate around (Updated end) updates before after ok comes = absurd comes
+came_well Update around Valid updates before after ok comes = absurd comes
+came_well Update around Usage updates before after ok comes = absurd cc
+came_well Update around TextFailed updates before after ok comes = absurd cc
+came_well Update around (Refused refusal) updates before after ok comes = absurd cc
+came_well Update around NotSupported updates before after ok comes = absurd cc
+came_well Update around (Updated end) updates before after ok comes = ended_well around end updates before after ok comes.1
+
+told_well : (outcome : Outcome) (answer : Status) (old new : Standing) → Tells outcome answer old new → answer ≡ status.Ok → status_of outcome ≡ status.Ok
+told_well outcome answer old new (inl told) ok = sym told.status ∙ ok
+told_well outcome answer old new (inr cut) ok = elim cut.status [ inl sink ↦ absurd (let no : status.Sink ≡ status.Ok = sym sink.0 ∙ ok in cc) | inr memory ↦ absurd (let no : status.Memory ≡ status.Ok = sym memory ∙ ok in cc) ]
+
+pub executed_well : (command : Command) (around : Around) (given : Status) (updates : List Ended) (old mid : Standing) → Executes command around given updates old mid → given ≡ status.Ok → WentWell updates old.file mid.file
+executed_well command around given updates old mid (inl (outcome, does)) ok = came_well command around outcome updates old.file mid.file (told_well outcome given old mid does.tells ok) does.comes
+executed_well command around given updates old mid (inr (out, none)) ok = absurd (let no : status.Memory ≡ status.Ok = sym out.status ∙ ok in cc)
+
+abbrev IsUnloaded : List Ended → Type 0
+IsUnloaded updates = loaded_by updates ≡ false → acked_by updates ≡ []
+
+ended_unloaded : (around : Around) (end : UpdateEnd) (updates : List Ended) (before after : List ℕ) → IsUpdate around end updates before after → IsUnloaded updates
+ended_unloaded around end updates before after (ended, is, same, with_it) = subst IsUnloaded (sym is) (unloaded_acked (found_by around before) ended after with_it)
+
+idle_unloaded : (updates : List Ended) → updates ≡ [] → IsUnloaded updates
+idle_unloaded updates none = subst IsUnloaded (sym none) (λ unloaded. refl)
+
+came_unloaded : (command : Command) (around : Around) (outcome : Outcome) (updates : List Ended) (before after : List ℕ) → Comes command around outcome updates before after → IsUnloaded updates
+came_unloaded Validate around Valid updates before after comes = idle_unloaded updates comes.1.0
+came_unloaded Validate around Usage updates before after comes = absurd comes
+came_unloaded Validate around TextFailed updates before after comes = idle_unloaded updates comes.0
+came_unloaded Validate around (Refused refusal) updates before after comes = idle_unloaded updates comes.1.0
+came_unloaded Validate around NotSupported updates before after comes = absurd comes
+came_unloaded Validate around (Updated end) updates before after comes = absurd comes
+came_unloaded Update around Valid updates before after comes = absurd comes
+came_unloaded Update around Usage updates before after comes = absurd comes
+came_unloaded Update around TextFailed updates before after comes = idle_unloaded updates comes.0
+came_unloaded Update around (Refused refusal) updates before after comes = idle_unloaded updates comes.1.0
+came_unloaded Update around NotSupported updates before after comes = idle_unloaded updates comes.1.0
+came_unloaded Update around (Updated end) updates before after comes = ended_unloaded around end updates before after comes.1
+
+pub executed_unloaded : (command : Command) (around : Around) (given : Status) (updates : List Ended) (old mid : Standing) → Executes command around given updates old mid → loaded_by updates ≡ false → acked_by updates ≡ []
+executed_unloaded command around given updates old mid (inl (outcome, does)) = came_unloaded command around outcome updates old.file mid.file does.comes
+executed_unloaded command around given updates old mid (inr (out, none)) = idle_unloaded updates none
+
 -- ---- commands in order
 
 split_commands : (commands : List Command) (i : ℕ) (command : Command) → i < length commands → command ≡ get_or commands i command → drop i commands ≡ command ∷ drop (i + 1) commands
 split_commands commands i command within is = drop_more commands i command within ∙ ap (λ (c : Command). c ∷ drop (i + 1) commands) (sym is)
 
--- the commands from a place on, and so all of them
-abbrev pub Continues : Around → List Command → ℕ → Standing → Standing → Type 0
-Continues around commands i start here = (answer : Status) (new : Standing) → Runs around (drop i commands) answer here new → Runs around commands answer start new
+-- the commands from a place on, and so all of them, with the updates so far
+abbrev pub Continues : Around → List Command → ℕ → List Ended → Standing → Standing → Type 0
+Continues around commands i updates start here =
+    (more : List Ended) (answer : Status) (new : Standing) → Runs around (drop i commands) answer more here new → Runs around commands answer (updates ++ more) start new
 
-pub goes_on : (around : Around) (commands : List Command) (i : ℕ) (command : Command) (start here mid : Standing) (given : Status) → i < length commands → command ≡ get_or commands i command → Executes command around given here mid → given ≡ status.Ok → Continues around commands i start here → Continues around commands (i + 1) start mid
-goes_on around commands i command start here mid given within is executes ok so_far answer new after =
-    so_far answer new (rw (split_commands commands i command within is) (mid, given, executes, inl (ok, after)))
+pub goes_on : (around : Around) (commands : List Command) (i : ℕ) (command : Command) (updates own : List Ended) (start here mid : Standing) (given : Status) → i < length commands → command ≡ get_or commands i command
+    → Executes command around given own here mid → given ≡ status.Ok → Continues around commands i updates start here → Continues around commands (i + 1) (updates ++ own) start mid
+goes_on around commands i command updates own start here mid given within is executes ok so_far more answer new after =
+    subst (λ (list : List Ended). Runs around commands answer list start new) (sym (append_assoc updates own more))
+    (so_far (own ++ more) answer new (rw (split_commands commands i command within is) (mid, given, own, more, refl, executes, inl (ok, after))))
 
-pub stops : (around : Around) (commands : List Command) (i : ℕ) (command : Command) (start here mid : Standing) (given : Status) → i < length commands → command ≡ get_or commands i command → Executes command around given here mid → given ≢ status.Ok → Continues around commands i start here → Runs around commands given start mid
-stops around commands i command start here mid given within is executes ne so_far =
-    so_far given mid (rw (split_commands commands i command within is) (mid, given, executes, inr (ne, refl, refl)))
+pub stops : (around : Around) (commands : List Command) (i : ℕ) (command : Command) (updates own : List Ended) (start here mid : Standing) (given : Status) → i < length commands → command ≡ get_or commands i command
+    → Executes command around given own here mid → given ≢ status.Ok → Continues around commands i updates start here → Runs around commands given (updates ++ own) start mid
+stops around commands i command updates own start here mid given within is executes ne so_far =
+    so_far own given mid (rw (split_commands commands i command within is) (mid, given, own, [], sym (append-nil own), executes, inr (ne, refl, refl, refl)))
 
-pub is_done : (around : Around) (commands : List Command) (i : ℕ) (start here : Standing) → length commands ≤ i → Continues around commands i start here → Runs around commands status.Ok start here
-is_done around commands i start here past so_far = so_far status.Ok here (rw (drop_all i commands past) (refl, refl))
+pub is_done : (around : Around) (commands : List Command) (i : ℕ) (updates : List Ended) (start here : Standing) → length commands ≤ i → Continues around commands i updates start here → Runs around commands status.Ok updates start here
+is_done around commands i updates start here past so_far =
+    subst (λ (list : List Ended). Runs around commands status.Ok list start here) (append-nil updates) (so_far [] status.Ok here (rw (drop_all i commands past) (refl, refl, refl)))
+
+-- what is known before each command
+pub record GoesSo (timed : Type 0) (around : Around) (commands : List Command) (i : ℕ) (start here : Standing) (was now : DiskState) : Type 0 where
+  pub updates : List Ended
+  pub continues : Continues around commands i updates start here
+  pub far : SoFar timed updates was now
+
+pub begins : (timed : Type 0) (around : Around) (commands : List Command) (start : Standing) (disk : DiskState) → GoesSo timed around commands 0 start start disk disk
+begins timed around commands start disk = record { updates = []; continues = λ more answer new runs. runs; far = at_start timed disk }
+
+pub next_command : (timed : Type 0) (around : Around) (commands : List Command) (i : ℕ) (command : Command) (start here mid : Standing) (was now new : DiskState) (given : Status) → i < length commands → command ≡ get_or commands i command
+    → here.file ≡ now.now.left → mid.file ≡ new.now.left → HasExecuted timed command around given here mid now new → given ≡ status.Ok → GoesSo timed around commands i start here was now → GoesSo timed around commands (i + 1) start mid was new
+next_command timed around commands i command start here mid was now new given within is same_here same_mid done ok so_far = record {
+  updates = so_far.updates ++ done.updates;
+  continues = goes_on around commands i command so_far.updates done.updates start here mid given within is done.executes ok so_far.continues;
+  far = well_on timed so_far.updates done.updates was now new so_far.far done.leaves (rw (same_here, same_mid) at (executed_well command around given done.updates here mid done.executes ok));
+}
+
+pub last_command : (timed : Type 0) (around : Around) (commands : List Command) (i : ℕ) (command : Command) (start here mid : Standing) (was now new : DiskState) (given : Status) → i < length commands → command ≡ get_or commands i command
+    → HasExecuted timed command around given here mid now new → given ≢ status.Ok → GoesSo timed around commands i start here was now → HasRunAll timed commands around given start mid was new
+last_command timed around commands i command start here mid was now new given within is done ne so_far = record {
+  updates = so_far.updates ++ done.updates;
+  runs = stops around commands i command so_far.updates done.updates start here mid given within is done.executes ne so_far.continues;
+  leaves = leaves_on timed so_far.updates done.updates was now new so_far.far done.leaves (executed_unloaded command around given done.updates here mid done.executes);
+}
+
+pub all_commands : (timed : Type 0) (around : Around) (commands : List Command) (i : ℕ) (start here : Standing) (was now : DiskState) → length commands ≤ i → GoesSo timed around commands i start here was now → HasRunAll timed commands around status.Ok start here was now
+all_commands timed around commands i start here was now past so_far = record {
+  updates = so_far.updates;
+  runs = is_done around commands i so_far.updates start here past so_far.continues;
+  leaves = all_left timed so_far.updates was now so_far.far;
+}
 
 -- ---- a whole run
 
@@ -133,12 +262,20 @@ says_no_usage commands status.Stopped own = tt
 says_no_usage commands status.Memory own = tt
 says_no_usage commands status.Usage own = absurd own
 
-pub ran_no_words : (asked : Option (List Command)) (around : Around) (answer : Status) (old new : Standing) → asked ≡ None → Refuses Usage answer old new → Ran asked around answer old new
-ran_no_words None around answer old new is refuses = inl refuses
-ran_no_words (Some commands) around answer old new is refuses = absurd cc
+out : (old : Standing) → RunsOut status.Memory old old
+out old = record { status = refl; file = refl; printed = refl; later = record { text = omega arith; disk = omega arith; landing = omega arith; sink = omega arith } }
 
-pub ran_commands : (asked : Option (List Command)) (commands : List Command) (around : Around) (answer : Status) (old new : Standing) → asked ≡ Some commands → Runs around commands answer old new → Ran asked around answer old new
-ran_commands None commands around answer old new is runs = absurd cc
-ran_commands (Some others) commands around answer old new is runs =
+pub ran_no_words : (timed : Type 0) (asked : Option (List Command)) (around : Around) (answer : Status) (old new : Standing) (disk : DiskState) → asked ≡ None → Refuses Usage answer old new → HasRun timed asked around answer old new disk disk
+ran_no_words timed None around answer old new disk is refuses = record { updates = []; ran = (inl refuses, refl); leaves = no_updates timed disk }
+ran_no_words timed (Some commands) around answer old new disk is refuses = absurd cc
+
+pub ran_commands : (timed : Type 0) (asked : Option (List Command)) (commands : List Command) (around : Around) (answer : Status) (old new : Standing) (was now : DiskState) → asked ≡ Some commands → HasRunAll timed commands around answer old new was now
+    → HasRun timed asked around answer old new was now
+ran_commands timed None commands around answer old new was now is runs = absurd cc
+ran_commands timed (Some others) commands around answer old new was now is runs =
     let same : others ≡ commands = cc in
-    inr (rw same runs)
+    record { updates = runs.updates; ran = inr (rw same runs.runs); leaves = runs.leaves }
+
+pub ran_out_of_words : (timed : Type 0) (asked : Option (List Command)) (around : Around) (old : Standing) (disk : DiskState) → HasRun timed asked around status.Memory old old disk disk
+ran_out_of_words timed None around old disk = record { updates = []; ran = (inr (out old), refl); leaves = no_updates timed disk }
+ran_out_of_words timed (Some commands) around old disk = record { updates = []; ran = inl (out old, refl); leaves = no_updates timed disk }

@@ -1,16 +1,16 @@
 -- How runs end over devices that don't fail.
-use Rattle.std.specs.Prelude.{◌≡◌, ℕ, ◌≤◌, List, [], ◌∷◌, length, Option, Some, None}
+use Rattle.std.specs.Prelude.{◌≡◌, ◌⊎◌, ℕ, List, [], ◌∷◌, Option}
 use Rattle.disk_model.specs.Faults.{Rose}
-use Rattle.plain_store.specs.declared.store.Store.{Store}
-use Rattle.plain_store.specs.Reading.{stored}
-use Rattle.plain_store.specs.Spelling.{spelling}
+use Rattle.table_update.specs.Ends as tables
+use Rattle.table_update.specs.Ends.{Alike}
 use Rattle.pipeline_run.specs.declared.command.Command.{Command}
 use Rattle.pipeline_run.specs.declared.command.Command.TheVariants as command
 use Rattle.pipeline_run.specs.declared.outcome.Status.{Status}
 use Rattle.pipeline_run.specs.declared.outcome.Status.TheVariants as status
 use Rattle.pipeline_run.specs.Pipeline.{the_pipeline, HasStatements}
-use Rattle.pipeline_run.specs.Run.{Around, Standing, Ran}
-use Rattle.pipeline_run.specs.Update.{Found, shrunk, lines, reach, with_lines}
+use Rattle.pipeline_run.specs.Run.{Around, found_by, Standing, Ran}
+use Rattle.pipeline_run.specs.Table.{the_table}
+use Rattle.pipeline_run.specs.Update.{Ended, tried_by}
 
 -- no device's count of failures rose between these standings
 pub record NothingFailed (old new : Standing) : Type 0 where
@@ -20,24 +20,27 @@ pub record NothingFailed (old new : Standing) : Type 0 where
   pub sink : Rose old.faults.sink new.faults.sink → ⊥
 
 -- a run that ended with this answer, and neither for a device nor for want of memory
-pub record RanWell (asked : Option (List Command)) (around : Around) (answer : Status) (old new : Standing) : Type 0 where
-  pub ran : Ran asked around answer old new
+pub record RanWell (asked : Option (List Command)) (around : Around) (answer : Status) (updates : List Ended) (old new : Standing) : Type 0 where
+  pub ran : Ran asked around answer updates old new
   pub fine : NothingFailed old new
   pub memory : answer ≡ status.Memory → ⊥
 
--- the answer, the store's file and what was printed are the same
-pub record SameEnd (answer other : Status) (new also : Standing) : Type 0 where
-  pub answers : answer ≡ other
-  pub file : new.file ≡ also.file
-  pub printed : new.printed ≡ also.printed
+-- a store takes two files for the same: they are, or each loads as the other does and goes on at the same place
+abbrev pub SameFile : List ℕ → List ℕ → Type 0
+SameFile file other = (file ≡ other) ⊎ Alike file other
 
--- an update over this file has nothing to refuse: the text is the pipeline that it is built for, the file is this
--- store's, no listed file is shorter than its place, and the new file has room
-pub record NothingRefused (around : Around) (file : List ℕ) (store : Store) : Type 0 where
+-- the answer, what was printed and what was committed are the same, and where that is all a success, so are the files
+pub record SameEnd (answer other : Status) (updates others : List Ended) (new also : Standing) : Type 0 where
+  pub answers : answer ≡ other
+  pub printed : new.printed ≡ also.printed
+  pub tried : tried_by updates ≡ tried_by others
+  pub files : answer ≡ status.Ok → SameFile new.file also.file
+
+-- an update over this file has nothing to refuse: the text is the pipeline that it is built for, the file is a store that
+-- has its table or nothing, no listed file is shorter than its place, and there is room
+pub record NothingRefused (around : Around) (file : List ℕ) : Type 0 where
   pub accepted : HasStatements around.text the_pipeline
-  pub holds : stored file ≡ Some store
-  pub none_shrank : let found : Found = record { file = file; room = around.room; landing = around.landing } in shrunk found store ≡ None
-  pub fits : let found : Found = record { file = file; room = around.room; landing = around.landing } in length (spelling (with_lines store (lines found store) (reach found store))) ≤ around.room
+  pub takes : tables.NothingRefused the_table (found_by around file)
 
 -- commands that change nothing
 abbrev pub AreValidates : List Command → Type 0

@@ -4,15 +4,18 @@ use Rattle.disk_model.specs.Faults.{Rose}
 use Rattle.landing_core.specs.declared.landing.LandingFile.{LandingFile}
 use Rattle.sql_tree.specs.declared.statement.Statement.{Statement}
 use Rattle.pipeline_sql.specs.Read.{IsRefused}
+use Rattle.table_update.specs.Update.{Found}
+use Rattle.table_update.specs.declared.end.UpdateEnd.{UpdateEnd}
+use Rattle.table_update.specs.declared.end.UpdateEnd.TheVariants.{LoadFailed, CommitFailed, LandingFailed}
 use Rattle.pipeline_run.specs.declared.command.Command.{Command}
 use Rattle.pipeline_run.specs.declared.command.Command.TheVariants as command
 use Rattle.pipeline_run.specs.declared.outcome.Outcome.{Outcome}
-use Rattle.pipeline_run.specs.declared.outcome.Outcome.TheVariants.{Usage, TextFailed, Refused, NotSupported, Valid, DiskFailed, LandingFailed}
+use Rattle.pipeline_run.specs.declared.outcome.Outcome.TheVariants.{Usage, TextFailed, Refused, NotSupported, Valid, Updated}
 use Rattle.pipeline_run.specs.declared.outcome.Status.{Status}
 use Rattle.pipeline_run.specs.declared.outcome.Status.TheVariants as status
 use Rattle.pipeline_run.specs.Pipeline.{the_pipeline, text_limit, HasStatements}
 use Rattle.pipeline_run.specs.Report.{printed, status_of}
-use Rattle.pipeline_run.specs.Update.{Updates}
+use Rattle.pipeline_run.specs.Update.{Ended, EndsWith}
 
 -- what stays as it is during a run: what the source of the text has left when it begins, how long the store's file may
 -- get, and the landing files
@@ -65,42 +68,61 @@ pub record RunsOut (answer : Status) (old new : Standing) : Type 0 where
 
 -- ---- one command
 
--- When a command comes to an outcome, and the bytes of the store's file before and after it. Each command needs the
--- text. One whose text couldn't be read, or is refused, or isn't what the command is built for, leaves the file as it was.
-abbrev pub Comes : Command → Around → Outcome → List ℕ → List ℕ → Type 0
-Comes command around TextFailed before after = after ≡ before
-Comes command around (Refused refusal) before after = IsRefused (take text_limit around.text) refusal × (after ≡ before)
-Comes command.Validate around Valid before after = ((statements : List Statement) × HasStatements around.text statements) × (after ≡ before)
-Comes command.Validate around outcome before after = ⊥
-Comes command.Update around NotSupported before after =
-    ((statements : List Statement) × HasStatements around.text statements × (statements ≢ the_pipeline)) × (after ≡ before)
-Comes command.Update around outcome before after =
-    HasStatements around.text the_pipeline × Updates (record { file = before; room = around.room; landing = around.landing }) outcome after
+abbrev pub found_by : Around → List ℕ → Found
+found_by around file = record { bytes = file; room = around.room; landing = around.landing }
 
--- an outcome that blames a device comes only where that device's count rose
+-- there was no update, and the bytes of the store's file are as they were
+abbrev pub IsIdle : List Ended → List ℕ → List ℕ → Type 0
+IsIdle updates before after = (updates ≡ []) × (after ≡ before)
+
+-- there was one update, which ended so
+abbrev pub IsUpdate : Around → UpdateEnd → List Ended → List ℕ → List ℕ → Type 0
+IsUpdate around end updates before after = (ended : Ended) × (updates ≡ ended ∷ []) × (ended.end ≡ end) × EndsWith (found_by around before) ended after
+
+-- When a command comes to an outcome, which updates it had, and the bytes of the store's file before and after it. Each
+-- command needs the text. One whose text couldn't be read, or is refused, or isn't what the command is built for, leaves
+-- the file as it was.
+abbrev pub Comes : Command → Around → Outcome → List Ended → List ℕ → List ℕ → Type 0
+Comes command around TextFailed updates before after = IsIdle updates before after
+Comes command around (Refused refusal) updates before after = IsRefused (take text_limit around.text) refusal × IsIdle updates before after
+Comes command.Validate around Valid updates before after = ((statements : List Statement) × HasStatements around.text statements) × IsIdle updates before after
+Comes command.Validate around outcome updates before after = ⊥
+Comes command.Update around NotSupported updates before after =
+    ((statements : List Statement) × HasStatements around.text statements × (statements ≢ the_pipeline)) × IsIdle updates before after
+Comes command.Update around (Updated end) updates before after = HasStatements around.text the_pipeline × IsUpdate around end updates before after
+Comes command.Update around outcome updates before after = ⊥
+
+-- an end of an update that blames a device comes only where that device's count rose
+abbrev pub BlamesOf : Counts → Counts → UpdateEnd → Type 0
+BlamesOf before now LoadFailed = Rose before.disk now.disk
+BlamesOf before now CommitFailed = Rose before.disk now.disk
+BlamesOf before now LandingFailed = Rose before.landing now.landing
+BlamesOf before now _ = Unit {0}
+
+-- and so does an outcome
 abbrev pub Blames : Counts → Counts → Outcome → Type 0
 Blames before now TextFailed = Rose before.text now.text
-Blames before now DiskFailed = Rose before.disk now.disk
-Blames before now LandingFailed = Rose before.landing now.landing
+Blames before now (Updated end) = BlamesOf before now end
 Blames before now _ = Unit {0}
 
 -- a command came to this outcome
-pub record Does (command : Command) (around : Around) (answer : Status) (old new : Standing) (outcome : Outcome) : Type 0 where
-  pub comes : Comes command around outcome old.file new.file
+pub record Does (command : Command) (around : Around) (answer : Status) (updates : List Ended) (old new : Standing) (outcome : Outcome) : Type 0 where
+  pub comes : Comes command around outcome updates old.file new.file
   pub blames : Blames old.faults new.faults outcome
   pub tells : Tells outcome answer old new
   pub later : NoneFalls old.faults new.faults
 
-abbrev pub Executes : Command → Around → Status → Standing → Standing → Type 0
-Executes command around answer old new = ((outcome : Outcome) × Does command around answer old new outcome) ⊎ RunsOut answer old new
+abbrev pub Executes : Command → Around → Status → List Ended → Standing → Standing → Type 0
+Executes command around answer updates old new =
+    ((outcome : Outcome) × Does command around answer updates old new outcome) ⊎ (RunsOut answer old new × (updates ≡ []))
 
 -- ---- commands in order: the first answer other than Ok ends them
 
-abbrev pub Runs : Around → List Command → Status → Standing → Standing → Type 0
-Runs around [] answer old new = (answer ≡ status.Ok) × (new ≡ old)
-Runs around (first ∷ others) answer old new =
-    (mid : Standing) × (given : Status) × Executes first around given old mid
-    × (((given ≡ status.Ok) × Runs around others answer mid new) ⊎ ((given ≢ status.Ok) × (answer ≡ given) × (new ≡ mid)))
+abbrev pub Runs : Around → List Command → Status → List Ended → Standing → Standing → Type 0
+Runs around [] answer updates old new = (answer ≡ status.Ok) × (updates ≡ []) × (new ≡ old)
+Runs around (first ∷ others) answer updates old new =
+    (mid : Standing) × (given : Status) × (own more : List Ended) × (updates ≡ own ++ more) × Executes first around given own old mid
+    × (((given ≡ status.Ok) × Runs around others answer more mid new) ⊎ ((given ≢ status.Ok) × (answer ≡ given) × (more ≡ []) × (new ≡ mid)))
 
 -- ---- a whole run
 
@@ -110,9 +132,9 @@ pub record Refuses (outcome : Outcome) (answer : Status) (old new : Standing) : 
   pub tells : Tells outcome answer old new
 
 -- The words come first, and then the commands in order.
-abbrev pub Ran : Option (List Command) → Around → Status → Standing → Standing → Type 0
-Ran None around answer old new = Refuses Usage answer old new ⊎ RunsOut answer old new
-Ran (Some commands) around answer old new = RunsOut answer old new ⊎ Runs around commands answer old new
+abbrev pub Ran : Option (List Command) → Around → Status → List Ended → Standing → Standing → Type 0
+Ran None around answer updates old new = (Refuses Usage answer old new ⊎ RunsOut answer old new) × (updates ≡ [])
+Ran (Some commands) around answer updates old new = (RunsOut answer old new × (updates ≡ [])) ⊎ Runs around commands answer updates old new
 
 -- ---- answers over any devices
 

@@ -2,15 +2,15 @@
 #![tactic(auto)]
 
 mod command;
+mod end_line;
 mod in_memory;
-mod json_line;
 mod laws;
 mod outcome;
 mod pipeline;
 mod program;
 mod report;
 mod supported;
-mod update;
+mod table;
 
 pub use command::Command;
 pub use in_memory::run_in_memory;
@@ -21,6 +21,8 @@ pub use laws::{
 pub use outcome::{Outcome, Status};
 pub use program::run;
 
+#[cfg(test)]
+mod test_devices;
 #[cfg(test)]
 mod tests;
 #[cfg(test)]

@@ -1,22 +1,31 @@
 // A whole run.
 ghost use Rattle.std.specs.Prelude.{◌≡◌, ◌≤◌, ◌+◌, ℕ, List, Ok, map, length, string_bytes, IfOk, OnErr};
+ghost use Rattle.disk_model.specs.declared.disk.Side.TheVariants.{Right};
+ghost use Rattle.disk_model.specs.Disk.{IsHonest};
 ghost use Rattle.disk_model.specs.Faults.{Rose};
+ghost use Rattle.landing_core.specs.Folders.{HoldsPresent};
+ghost use Rattle.commit_gate.specs.AtRest.{LeavesFile};
+ghost use Rattle.store_core.specs.Ours.{IsOurs};
+ghost use Rattle.table_update.specs.Stands.{IsStanding};
 ghost use Rattle.pipeline_run.specs.Command.{commands_of};
+ghost use Rattle.pipeline_run.specs.Crash.{HasOutcome, HasExecuted, HasRunAll, HasRun};
 ghost use Rattle.pipeline_run.specs.Pipeline.{text_limit, HasStatements, Knows};
 ghost use Rattle.pipeline_run.specs.Report.{status_of};
-ghost use Rattle.pipeline_run.specs.Run.{Around, Counts, Standing, Comes, Tells, Executes, Runs, Refuses, Ran, IsTelling, IsOfCommand, IsOfStatements, IsOfCommands, AnswersUsage};
+ghost use Rattle.pipeline_run.specs.Run.{Around, Counts, Standing, Tells, IsTelling, IsOfCommand, IsOfStatements, IsOfCommands, AnswersUsage};
+ghost use Rattle.pipeline_run.specs.Table.{the_table};
 
 use crate::command::{Command, commands};
 use crate::outcome::{Outcome, Status};
 use crate::pipeline::{Unread, statements};
 use crate::report::{line, status};
 use crate::supported::is_supported;
-use crate::update::update;
+use crate::table::table_of;
 use disk_model::{Disk, Sink, SinkFault, Source};
 use landing_core::Landing;
 use sql_tokens::SqlRefusal;
 use sql_tree::Statements;
 use std::alloc::{AllocError, Global};
+use table_update::{UpdateEnd, update};
 
 /// Prints the line of an outcome, if it has one, and answers its status.
 fn tell<S: Sink>(alloc: Global, out: &mut S, outcome: &Outcome) -> Status
@@ -47,26 +56,31 @@ fn outcome_by<D: Disk, L: Landing>(
     disk: &mut D,
     landing: &mut L,
 ) -> Result<Outcome, AllocError>
-    ensures comes { D.tells → L.tells → (text : List ℕ) → HasStatements text statements.now → IfOk result (λ outcome. Comes command (record { text = text; room = D.room disk.old; landing = L.present landing.old }) outcome (D.state disk.old).now.left (D.state disk.new).now.left) }
-    ensures err { D.tells → OnErr result ((D.state disk.new).now.left ≡ (D.state disk.old).now.left) }
-    ensures other { D.tells → (D.state disk.new).now.right ≡ (D.state disk.old).now.right }
+    requires honest { D.tells → IsHonest (D.state disk.old) }
+    ensures comes { D.tells → L.tells → (text : List ℕ) → HasStatements text statements.now → IfOk result (λ outcome. HasOutcome D.tells_moments command (record { text = text; room = D.room disk.old; landing = L.present landing.old }) outcome (D.state disk.old) (D.state disk.new)) }
+    ensures err { OnErr result (disk.new ≡ disk.old) }
+    ensures ours { D.tells → IsOurs (D.state disk.old) → IsOurs (D.state disk.new) }
+    ensures stands { D.tells → L.tells → HoldsPresent (L.present landing.old) (L.ever landing.old) → IsStanding the_table (L.ever landing.old) (D.state disk.old) → IsStanding the_table (L.ever landing.old) (D.state disk.new) }
+    ensures honest { D.tells → IsHonest (D.state disk.new) }
+    ensures kept { D.tells → LeavesFile Right (D.state disk.old) (D.state disk.new) }
     ensures room { D.room disk.new ≡ D.room disk.old }
     ensures disk_later { D.faults disk.old ≤ D.faults disk.new }
     ensures landing_later { L.faults landing.old ≤ L.faults landing.new }
     ensures present { L.tells → L.present landing.new ≡ L.present landing.old }
     ensures ever { L.tells → L.ever landing.new ≡ L.ever landing.old }
     ensures own { IfOk result IsOfStatements }
-    ensures disk_fault { result ≡ Ok Outcome.DiskFailed → Rose (D.faults disk.old) (D.faults disk.new) }
-    ensures landing_fault { result ≡ Ok Outcome.LandingFailed → Rose (L.faults landing.old) (L.faults landing.new) }
+    ensures load_fault { result ≡ Ok (Outcome.Updated UpdateEnd.LoadFailed) → Rose (D.faults disk.old) (D.faults disk.new) }
+    ensures commit_fault { result ≡ Ok (Outcome.Updated UpdateEnd.CommitFailed) → Rose (D.faults disk.old) (D.faults disk.new) }
+    ensures landing_fault { result ≡ Ok (Outcome.Updated UpdateEnd.LandingFailed) → Rose (L.faults landing.old) (L.faults landing.new) }
 {
     match command {
         Command::Validate => Ok(Outcome::Valid),
         Command::Update => {
-            if is_supported(statements.as_slice()) {
-                update(alloc, disk, landing)
-            } else {
-                Ok(Outcome::NotSupported)
+            if !is_supported(statements.as_slice()) {
+                return Ok(Outcome::NotSupported);
             }
+            let table = table_of(alloc, statements)?;
+            Ok(Outcome::Updated(update(alloc, disk, landing, &table)))
         }
     }
 }
@@ -80,12 +94,16 @@ fn outcome_of<T: Source, D: Disk, L: Landing>(
     disk: &mut D,
     landing: &mut L,
 ) -> Result<Outcome, AllocError>
+    requires honest { D.tells → IsHonest (D.state disk.old) }
     // Whatever the text of the run is.
-    ensures comes { T.tells → D.tells → L.tells → (whole : List ℕ) → Knows whole known.old (T.left text.old) → IfOk result (λ outcome. Comes command (record { text = whole; room = D.room disk.old; landing = L.present landing.old }) outcome (D.state disk.old).now.left (D.state disk.new).now.left) }
+    ensures comes { T.tells → D.tells → L.tells → (whole : List ℕ) → Knows whole known.old (T.left text.old) → IfOk result (λ outcome. HasOutcome D.tells_moments command (record { text = whole; room = D.room disk.old; landing = L.present landing.old }) outcome (D.state disk.old) (D.state disk.new)) }
     ensures knows { T.tells → (whole : List ℕ) → Knows whole known.old (T.left text.old) → IfOk result (λ outcome. status_of outcome ≡ Status.Ok → Knows whole known.new (T.left text.new)) }
     ensures amount { T.tells → (whole : List ℕ) → Knows whole known.old (T.left text.old) → length whole ≤ length (T.left text.old) + text_limit → length whole ≤ length (T.left text.new) + text_limit }
-    ensures err { D.tells → OnErr result ((D.state disk.new).now.left ≡ (D.state disk.old).now.left) }
-    ensures other { D.tells → (D.state disk.new).now.right ≡ (D.state disk.old).now.right }
+    ensures err { OnErr result (disk.new ≡ disk.old) }
+    ensures ours { D.tells → IsOurs (D.state disk.old) → IsOurs (D.state disk.new) }
+    ensures stands { D.tells → L.tells → HoldsPresent (L.present landing.old) (L.ever landing.old) → IsStanding the_table (L.ever landing.old) (D.state disk.old) → IsStanding the_table (L.ever landing.old) (D.state disk.new) }
+    ensures honest { D.tells → IsHonest (D.state disk.new) }
+    ensures kept { D.tells → LeavesFile Right (D.state disk.old) (D.state disk.new) }
     ensures room { D.room disk.new ≡ D.room disk.old }
     ensures text_later { T.faults text.old ≤ T.faults text.new }
     ensures disk_later { D.faults disk.old ≤ D.faults disk.new }
@@ -94,8 +112,9 @@ fn outcome_of<T: Source, D: Disk, L: Landing>(
     ensures ever { L.tells → L.ever landing.new ≡ L.ever landing.old }
     ensures own { IfOk result IsOfCommand }
     ensures text_fault { result ≡ Ok Outcome.TextFailed → Rose (T.faults text.old) (T.faults text.new) }
-    ensures disk_fault { result ≡ Ok Outcome.DiskFailed → Rose (D.faults disk.old) (D.faults disk.new) }
-    ensures landing_fault { result ≡ Ok Outcome.LandingFailed → Rose (L.faults landing.old) (L.faults landing.new) }
+    ensures load_fault { result ≡ Ok (Outcome.Updated UpdateEnd.LoadFailed) → Rose (D.faults disk.old) (D.faults disk.new) }
+    ensures commit_fault { result ≡ Ok (Outcome.Updated UpdateEnd.CommitFailed) → Rose (D.faults disk.old) (D.faults disk.new) }
+    ensures landing_fault { result ≡ Ok (Outcome.Updated UpdateEnd.LandingFailed) → Rose (L.faults landing.old) (L.faults landing.new) }
 {
     let statements = match statements(alloc, text, known.take()) {
         Ok(statements) => statements,
@@ -118,13 +137,18 @@ fn execute<T: Source, D: Disk, L: Landing, S: Sink>(
     landing: &mut L,
     out: &mut S,
 ) -> Status
+    requires honest { D.tells → IsHonest (D.state disk.old) }
     // Whatever the text of the run is.
-    ensures executes { T.tells → D.tells → L.tells → S.tells → (whole : List ℕ) → Knows whole known.old (T.left text.old) → Executes command (record { text = whole; room = D.room disk.old; landing = L.present landing.old }) result
+    ensures executes { T.tells → D.tells → L.tells → S.tells → (whole : List ℕ) → Knows whole known.old (T.left text.old) → HasExecuted D.tells_moments command (record { text = whole; room = D.room disk.old; landing = L.present landing.old }) result
         (record { file = (D.state disk.old).now.left; printed = S.written out.old; faults = record { text = T.faults text.old; disk = D.faults disk.old; landing = L.faults landing.old; sink = S.faults out.old } })
-        (record { file = (D.state disk.new).now.left; printed = S.written out.new; faults = record { text = T.faults text.new; disk = D.faults disk.new; landing = L.faults landing.new; sink = S.faults out.new } }) }
+        (record { file = (D.state disk.new).now.left; printed = S.written out.new; faults = record { text = T.faults text.new; disk = D.faults disk.new; landing = L.faults landing.new; sink = S.faults out.new } })
+        (D.state disk.old) (D.state disk.new) }
     ensures knows { T.tells → (whole : List ℕ) → Knows whole known.old (T.left text.old) → result ≡ Status.Ok → Knows whole known.new (T.left text.new) }
     ensures amount { T.tells → (whole : List ℕ) → Knows whole known.old (T.left text.old) → length whole ≤ length (T.left text.old) + text_limit → length whole ≤ length (T.left text.new) + text_limit }
-    ensures other { D.tells → (D.state disk.new).now.right ≡ (D.state disk.old).now.right }
+    ensures ours { D.tells → IsOurs (D.state disk.old) → IsOurs (D.state disk.new) }
+    ensures stands { D.tells → L.tells → HoldsPresent (L.present landing.old) (L.ever landing.old) → IsStanding the_table (L.ever landing.old) (D.state disk.old) → IsStanding the_table (L.ever landing.old) (D.state disk.new) }
+    ensures honest { D.tells → IsHonest (D.state disk.new) }
+    ensures kept { D.tells → LeavesFile Right (D.state disk.old) (D.state disk.new) }
     ensures room { D.room disk.new ≡ D.room disk.old }
     ensures present { L.tells → L.present landing.new ≡ L.present landing.old }
     ensures ever { L.tells → L.ever landing.new ≡ L.ever landing.old }
@@ -151,10 +175,15 @@ fn execute_all<T: Source, D: Disk, L: Landing, S: Sink>(
     landing: &mut L,
     out: &mut S,
 ) -> Status
-    ensures runs { T.tells → D.tells → L.tells → S.tells → Runs (record { text = T.left text.old; room = D.room disk.old; landing = L.present landing.old }) commands.now result
+    requires honest { D.tells → IsHonest (D.state disk.old) }
+    ensures runs { T.tells → D.tells → L.tells → S.tells → HasRunAll D.tells_moments commands.now (record { text = T.left text.old; room = D.room disk.old; landing = L.present landing.old }) result
         (record { file = (D.state disk.old).now.left; printed = S.written out.old; faults = record { text = T.faults text.old; disk = D.faults disk.old; landing = L.faults landing.old; sink = S.faults out.old } })
-        (record { file = (D.state disk.new).now.left; printed = S.written out.new; faults = record { text = T.faults text.new; disk = D.faults disk.new; landing = L.faults landing.new; sink = S.faults out.new } }) }
-    ensures other { D.tells → (D.state disk.new).now.right ≡ (D.state disk.old).now.right }
+        (record { file = (D.state disk.new).now.left; printed = S.written out.new; faults = record { text = T.faults text.new; disk = D.faults disk.new; landing = L.faults landing.new; sink = S.faults out.new } })
+        (D.state disk.old) (D.state disk.new) }
+    ensures ours { D.tells → IsOurs (D.state disk.old) → IsOurs (D.state disk.new) }
+    ensures stands { D.tells → L.tells → HoldsPresent (L.present landing.old) (L.ever landing.old) → IsStanding the_table (L.ever landing.old) (D.state disk.old) → IsStanding the_table (L.ever landing.old) (D.state disk.new) }
+    ensures honest { D.tells → IsHonest (D.state disk.new) }
+    ensures kept { D.tells → LeavesFile Right (D.state disk.old) (D.state disk.new) }
     ensures present { L.tells → L.present landing.new ≡ L.present landing.old }
     ensures ever { L.tells → L.ever landing.new ≡ L.ever landing.old }
     ensures amount { T.tells → length (T.left text.old) ≤ length (T.left text.new) + text_limit }
@@ -195,13 +224,19 @@ pub fn run<D: Disk, L: Landing, T: Source, S: Sink>(
     landing: &mut L,
     out: &mut S,
 ) -> Status
-    // Over devices that tell: what was stored, printed and answered.
-    ensures ran { T.tells → D.tells → L.tells → S.tells → Ran (commands_of (map string_bytes words.now)) (record { text = T.left text.old; room = D.room disk.old; landing = L.present landing.old }) result
+    requires honest { D.tells → IsHonest (D.state disk.old) }
+
+    // Over devices that tell: what was stored, printed and answered, and what a crash leaves at each moment.
+    ensures ran { T.tells → D.tells → L.tells → S.tells → HasRun D.tells_moments (commands_of (map string_bytes words.now)) (record { text = T.left text.old; room = D.room disk.old; landing = L.present landing.old }) result
         (record { file = (D.state disk.old).now.left; printed = S.written out.old; faults = record { text = T.faults text.old; disk = D.faults disk.old; landing = L.faults landing.old; sink = S.faults out.old } })
-        (record { file = (D.state disk.new).now.left; printed = S.written out.new; faults = record { text = T.faults text.new; disk = D.faults disk.new; landing = L.faults landing.new; sink = S.faults out.new } }) }
+        (record { file = (D.state disk.new).now.left; printed = S.written out.new; faults = record { text = T.faults text.new; disk = D.faults disk.new; landing = L.faults landing.new; sink = S.faults out.new } })
+        (D.state disk.old) (D.state disk.new) }
 
     // What a run leaves alone, and how much it reads.
-    ensures other { D.tells → (D.state disk.new).now.right ≡ (D.state disk.old).now.right }
+    ensures ours { D.tells → IsOurs (D.state disk.old) → IsOurs (D.state disk.new) }
+    ensures stands { D.tells → L.tells → HoldsPresent (L.present landing.old) (L.ever landing.old) → IsStanding the_table (L.ever landing.old) (D.state disk.old) → IsStanding the_table (L.ever landing.old) (D.state disk.new) }
+    ensures honest { D.tells → IsHonest (D.state disk.new) }
+    ensures kept { D.tells → LeavesFile Right (D.state disk.old) (D.state disk.new) }
     ensures present { L.tells → L.present landing.new ≡ L.present landing.old }
     ensures ever { L.tells → L.ever landing.new ≡ L.ever landing.old }
     ensures amount { T.tells → length (T.left text.old) ≤ length (T.left text.new) + text_limit }

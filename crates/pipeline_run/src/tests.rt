@@ -1,9 +1,17 @@
-use crate::update::load;
+// Runs over devices in memory: what is stored, printed and answered.
+ghost use Rattle.std.specs.Prelude.{◌≡◌, true, IfOk};
+ghost use Rattle.disk_model.specs.Disk.{IsHonest};
+ghost use Rattle.disk_model.specs.MemDisk.{mem_state};
+ghost use Rattle.line_rows.specs.Lines.{keeps_text};
+
+use crate::test_devices::{left, shown};
 use crate::{Status, run, run_in_memory};
 use disk_model::{MemDisk, MemSink, MemSource, SureDisk, SureSink, SureSource};
 use landing_core::{MemLanding, SureLanding};
 use std::alloc::{AllocError, Global};
 use std::test::Fail;
+use table_update::AppendTable;
+use value_core::{Column, Format, Kind, Name, Schema, Shape, Text};
 
 const PIPELINE: &[u8] =
     b"CREATE OR REFRESH STREAMING TABLE t AS SELECT a FROM STREAM read_files('in', format => 'json', schema => 'a BIGINT')";
@@ -11,9 +19,8 @@ const PIPELINE: &[u8] =
 /// Two lines, of 8 and 11 bytes.
 const LINES: &[u8] = b"{\"a\":5}\n{\"a\":null}\n";
 
-/// The store of these lines as `a.json`.
-const STORE: &[u8] =
-    b"LDPPLAIN\0\0\0\0\0\0\0\x01\0\0\0\0\0\0\0\x06a.json\0\0\0\0\0\0\0\x13\0\0\0\0\0\0\0\x01\0\0\0\0\0\0\0\x02\0\x04\0\0\0\0\0\0\0\x05";
+/// What the store shows once these lines are taken from `a.json`.
+const TAKEN: &str = "+-|;5|;read a.json 19";
 
 fn words(alloc: Global, list: &[&str]) -> Result<Vec<String>, AllocError> {
     let mut words = Vec::new(alloc);
@@ -45,8 +52,7 @@ fn the_first_update_writes_two_rows(rt: HostRuntime) -> Result<(), Fail> {
     let (status, out) = update(alloc, &mut disk, &mut landing)?;
     assert!(rt; status == Status::Ok);
     assert!(rt; out.bytes() == b"flow t into t: completed, 2 rows read, version 1\n".as_slice());
-    let left = load(alloc, &mut disk).ok().ok_or("the store is read")?;
-    assert!(rt; left.as_slice() == STORE);
+    assert!(rt; shown(alloc, &mut disk)?.as_str() == TAKEN);
     Ok(())
 }
 
@@ -126,45 +132,6 @@ fn updates_go_on_from_the_places(rt: HostRuntime) -> Result<(), Fail> {
     Ok(())
 }
 
-/// A line, and what its value is spelled as. RFC 8259 §3 to §7; numbers of 64 bits alone are whole.
-const ODD_LINES: [(&[u8], &[u8]); 13] = [
-    (b"\xff\n", b"\0"),
-    (b"[\n", b"\0"),
-    (b"[5]\n", b"\0"),
-    (b"{\"b\":5}\n", b"\0"),
-    (
-        b"{\"a\":9223372036854775807}\n",
-        b"\x04\x7f\xff\xff\xff\xff\xff\xff\xff",
-    ),
-    (b"{\"a\":9223372036854775808}\n", b"\0"),
-    (b"{\"a\":-9223372036854775808}\n", b"\x04\x80\0\0\0\0\0\0\0"),
-    (b"{\"a\":1.0}\n", b"\0"),
-    (b"{\"a\":1e2}\n", b"\0"),
-    (b"{\"a\":-0}\n", b"\0"),
-    (b"{\"a\":5,\"b\":\"\\ud800\"}\n", b"\0"),
-    (b"{\"a\":1,\"a\":2}\n", b"\x04\0\0\0\0\0\0\0\x02"),
-    (
-        b"{\"a\":5,\"b\":[[[[[[[[[[[[[[[[[[[[[[[[[[[[[[[[[[[[[[[[[[[[[[[[[[[[[[[[[[[[[[[[[[[[[[[[[[[[[[[[[[[[[[[[[[[[[[[[[[[[[[[[[[[[[[[[[[[[[[[[[[[[[[[[[[[[[[[[[[[[]]]]]]]]]]]]]]]]]]]]]]]]]]]]]]]]]]]]]]]]]]]]]]]]]]]]]]]]]]]]]]]]]]]]]]]]]]]]]]]]]]]]]]]]]]]]]]]]]]]]]]]]]]]]]]]]]]]]]]]]]]]]]]]]]]]]]]]]]]]]}\n",
-        b"\0",
-    ),
-];
-
-#[test]
-fn a_line_that_does_not_match_is_null(rt: HostRuntime) -> Result<(), Fail> {
-    let alloc = rt.alloc();
-    for (line, value) in ODD_LINES {
-        let mut disk = SureDisk::new(alloc, b"", b"", 1024)?;
-        let mut landing = SureLanding::new(alloc);
-        landing.put("in", "a.json", line)?;
-        let (status, _out) = update(alloc, &mut disk, &mut landing)?;
-        assert!(rt; status == Status::Ok);
-        let left = load(alloc, &mut disk).ok().ok_or("the store is read")?;
-        let (_front, change) = left.as_slice().split_at_checked(54).ok_or("one change")?;
-        assert!(rt; change == value);
-    }
-    Ok(())
-}
-
 /// Words and a text and a store's file, and what the run answers and prints.
 struct Refusal {
     words: &'static [&'static str],
@@ -215,18 +182,18 @@ const REFUSALS: [Refusal; 6] = [
     Refusal {
         words: UPDATE,
         text: PIPELINE,
-        left: b"LDPPLAIN",
+        left: b"another program's file",
         room: 64,
         status: Status::Store,
-        line: b"store refused: foreign left 8\n",
+        line: b"store refused: foreign left 22\n",
     },
     Refusal {
         words: UPDATE,
         text: PIPELINE,
         left: b"",
-        room: 63,
+        room: 17,
         status: Status::Store,
-        line: b"store refused: full: end 64, room 63\n",
+        line: b"store refused: full: end 18, room 17\n",
     },
 ];
 
@@ -251,9 +218,88 @@ fn what_is_refused_is_said(rt: HostRuntime) -> Result<(), Fail> {
         );
         assert!(rt; status == refusal.status);
         assert!(rt; out.bytes() == refusal.line);
-        let left = load(alloc, &mut disk).ok().ok_or("the store is read")?;
+        let left = left(alloc, &mut disk).ok().ok_or("the file is read")?;
         assert!(rt; left.as_slice() == refusal.left);
     }
+    Ok(())
+}
+
+/// The definition, and the batch of two lines behind it, with the closed gate behind each.
+#[test]
+fn each_commit_wants_its_room(rt: HostRuntime) -> Result<(), Fail> {
+    let alloc = rt.alloc();
+    let mut landing = SureLanding::new(alloc);
+    landing.put("in", "a.json", LINES)?;
+    let mut disk = SureDisk::new(alloc, b"", b"", 247 - 1)?;
+    let (status, out) = update(alloc, &mut disk, &mut landing)?;
+    assert!(rt; status == Status::Store);
+    assert!(rt; out.bytes() == b"store refused: full: end 247, room 246\n".as_slice());
+    let mut disk = SureDisk::new(alloc, b"", b"", 365 - 1)?;
+    let (status, out) = update(alloc, &mut disk, &mut landing)?;
+    assert!(rt; status == Status::Store);
+    assert!(rt; out.bytes() == b"store refused: full: end 365, room 364\n".as_slice());
+    assert!(rt; shown(alloc, &mut disk)?.as_str() == "read");
+    Ok(())
+}
+
+/// The shape of the one table.
+fn shape(alloc: Global) -> Result<Shape, AllocError>
+    ensures { IfOk result (λ shape. keeps_text shape ≡ true) }
+{
+    let mut columns = Schema::new(alloc);
+    columns.push(Column {
+        name: Name::new(alloc, "a")?,
+        kind: Kind::Big,
+    })?;
+    Ok(Shape {
+        format: Format::Json,
+        columns,
+        rescued: false,
+        header: false,
+        sep: b',',
+    })
+}
+
+/// A table of this name and text, of the same folder and shape.
+fn table(alloc: Global, name: &str, text: &str) -> Result<AppendTable, AllocError>
+    ensures { IfOk result (λ table. keeps_text table.shape ≡ true) }
+{
+    Ok(AppendTable {
+        name: Name::new(alloc, name)?,
+        text: Text::new(alloc, text)?,
+        folder: Text::new(alloc, "in")?,
+        shape: shape(alloc)?,
+    })
+}
+
+/// What an update prints over the store of another table.
+fn refused_over(alloc: Global, name: &str, text: &str) -> Result<(Status, SureSink), Fail> {
+    let mut disk = SureDisk::new(alloc, b"", b"", 1024)?;
+    let mut landing = SureLanding::new(alloc);
+    let other = table(alloc, name, text)?;
+    let _end = table_update::update(alloc, &mut disk, &mut landing, &other);
+    Ok(update(alloc, &mut disk, &mut landing)?)
+}
+
+/// Its own text in canonical print, which the store keeps.
+const PRINTED: &str =
+    "CREATE OR REFRESH STREAMING TABLE t AS SELECT a FROM STREAM read_files ( 'in' , format => 'json' , schema => 'a BIGINT' )";
+
+#[test]
+fn a_store_of_another_table_is_refused(rt: HostRuntime) -> Result<(), Fail> {
+    let alloc = rt.alloc();
+    let (status, out) = refused_over(alloc, "t", PRINTED)?;
+    assert!(rt; status == Status::Ok);
+    assert!(rt; out.bytes() == b"flow t into t: current\n".as_slice());
+    let (status, out) = refused_over(alloc, "u|\n", "x")?;
+    assert!(rt; status == Status::Store);
+    assert!(rt; out.bytes() == b"store refused: removed u\\|\\n\n".as_slice());
+    let (status, out) = refused_over(alloc, "T", "x\t\\")?;
+    assert!(rt; status == Status::Store);
+    assert!(rt;
+        out.bytes()
+            == b"store refused: changed T: stored x\\t\\\\, given CREATE OR REFRESH STREAMING TABLE t AS SELECT a FROM STREAM read_files ( 'in' , format => 'json' , schema => 'a BIGINT' )\n".as_slice()
+    );
     Ok(())
 }
 
@@ -269,7 +315,7 @@ const BLAMES: [Blame; 4] = [
     Blame {
         status: Status::Disk,
         line: b"disk failed\n",
-        calls: 5,
+        calls: 19,
     },
     Blame {
         status: Status::Stopped,
@@ -297,22 +343,15 @@ fn failing(alloc: Global, is_meant: bool, call: u64) -> Result<Vec<u64>, AllocEr
     Ok(calls)
 }
 
-/// Runs the first update with this call of this device failing, and gives the store's file as it is then. Where the
-/// call comes first behind the update, reading the file fails once.
+/// Runs the first update with this call of this device failing, and then another one whose disk doesn't fail.
 fn update_failing(
     alloc: Global,
     device: usize,
     call: u64,
-) -> Result<(Status, MemSink, Vec<u8>), Fail> {
+) -> Result<(Status, MemSink, String), Fail> {
     let words = words(alloc, UPDATE)?;
-    let mut disk = MemDisk::new(
-        alloc,
-        b"",
-        b"",
-        64,
-        1024,
-        failing(alloc, device == 0, call)?,
-    )?;
+    let calls = failing(alloc, device == 0, call)?;
+    let mut disk = MemDisk::new(alloc, b"", b"", 1024, 4096, calls)?;
     let mut landing = MemLanding::new(alloc, failing(alloc, device == 1, call)?);
     landing.put("in", "a.json", LINES)?;
     let mut text = MemSource::new(alloc, PIPELINE, failing(alloc, device == 2, call)?)?;
@@ -325,11 +364,27 @@ fn update_failing(
         &mut landing,
         &mut out,
     );
-    let left = match load(alloc, &mut disk) {
-        Ok(left) => left,
-        Err(_) => load(alloc, &mut disk).ok().ok_or("the store is read")?,
-    };
-    Ok((status, out, left))
+    Ok((status, out, updated_again(alloc, &mut disk)?))
+}
+
+/// What the store shows after one more update.
+fn updated_again(alloc: Global, disk: &mut MemDisk) -> Result<String, Fail>
+    requires { IsHonest (mem_state disk.old) }
+{
+    let words = words(alloc, UPDATE)?;
+    let mut landing = SureLanding::new(alloc);
+    landing.put("in", "a.json", LINES)?;
+    let mut text = SureSource::new(alloc, PIPELINE)?;
+    let mut out = SureSink::new(alloc);
+    let _status = run(
+        alloc,
+        words.as_slice(),
+        &mut text,
+        disk,
+        &mut landing,
+        &mut out,
+    );
+    shown(alloc, disk)
 }
 
 #[test]
@@ -337,16 +392,13 @@ fn each_call_of_a_device_may_fail(rt: HostRuntime) -> Result<(), Fail> {
     let alloc = rt.alloc();
     for (device, blame) in BLAMES.iter().enumerate() {
         for call in 1..=blame.calls {
-            let (status, out, left) = update_failing(alloc, device, call)?;
+            let (status, out, again) = update_failing(alloc, device, call)?;
             assert!(rt; status == blame.status, "device {device}, call {call}");
             assert!(rt; out.bytes() == blame.line);
-            // The sync of the whole file, and the line of a flow that is stored, come last.
-            let is_written = device == 3 || device == 0 && call == 5;
-            assert!(rt; left.as_slice() == if is_written { STORE } else { b"" });
+            assert!(rt; again.as_str() == TAKEN);
         }
-        let (status, _out, left) = update_failing(alloc, device, blame.calls + 1)?;
+        let (status, _out, _again) = update_failing(alloc, device, blame.calls + 1)?;
         assert!(rt; status == Status::Ok, "device {device} makes more calls");
-        assert!(rt; left.as_slice() == STORE);
     }
     Ok(())
 }

@@ -1,6 +1,7 @@
-use Rattle.std.proofs.Common.{ap, refl, Ok, inl}
-use Rattle.pipeline_run.specs.Run.{Counts, Standing}
-use Rattle.pipeline_run.proofs.RunLemmas.{blames, told_ok}
+use Rattle.std.proofs.Common.{ap, refl, Ok, inl, arith}
+use Rattle.disk_model.specs.Faults.{Rose}
+use Rattle.pipeline_run.specs.Run.{Around, Counts, Standing}
+use Rattle.pipeline_run.proofs.RunLemmas.{blames, told_ok, told_disk, ran_out}
 use Rattle.pipeline_run.proofs.program.execute.Goals as goal
 
 pub returns-in-Ok-clause-executes : goal.returns-in-Ok-clause-executes
@@ -15,16 +16,38 @@ returns-in-Ok-clause-executes g c text disk landing sink whole knows =
     let now : Counts = record { text = t.faults c.outcome_of.new.text; disk = d.faults c.outcome_of.new.disk; landing = f.faults c.outcome_of.new.landing; sink = s.faults c.tell.new.out } in
     let old : Standing = record { file = (d.state c.args.disk.now).now.left; printed = s.written c.args.out.now; faults = before } in
     let new : Standing = record { file = (d.state c.outcome_of.new.disk).now.left; printed = s.written c.tell.new.out; faults = now } in
-    inl (
-      outcome,
-      record {
-        comes = facts.comes text disk landing whole knows;
-        blames = blames before now outcome (λ e. facts.text_fault (ap Ok e)) (λ e. facts.disk_fault (ap Ok e)) (λ e. facts.landing_fault (ap Ok e));
-        tells = c.tell.ensures.tells sink old.file new.file before now refl refl;
-        later = record { text = facts.text_later; disk = facts.disk_later; landing = facts.landing_later; sink = c.tell.ensures.later };
-      },
-    )
+    let has = facts.comes text disk landing whole knows in
+    record {
+      updates = has.updates;
+      executes = inl (
+        outcome,
+        record {
+          comes = has.comes;
+          blames = blames before now outcome (λ e. facts.text_fault (ap Ok e)) (λ e. facts.load_fault (ap Ok e)) (λ e. facts.commit_fault (ap Ok e)) (λ e. facts.landing_fault (ap Ok e));
+          tells = c.tell.ensures.tells sink old.file new.file before now refl refl;
+          later = record { text = facts.text_later; disk = facts.disk_later; landing = facts.landing_later; sink = c.tell.ensures.later };
+        },
+      );
+      leaves = has.leaves;
+    }
 
 pub returns-in-Ok-clause-knows : goal.returns-in-Ok-clause-knows
 returns-in-Ok-clause-knows g c text whole knows ok =
     c.in-Ok.ensures.knows text whole knows (told_ok c.in-Ok.outcome c.tell.result c.tell.ensures.status ok)
+
+pub returns-in-Ok-clause-disk_fault : goal.returns-in-Ok-clause-disk_fault
+returns-in-Ok-clause-disk_fault g c is =
+    told_disk c.in-Ok.outcome c.tell.result (Rose (g.D.Disk.faults c.args.disk.now) (g.D.Disk.faults c.outcome_of.new.disk)) c.tell.ensures.status is
+    (λ e. c.in-Ok.ensures.load_fault (ap Ok e)) (λ e. c.in-Ok.ensures.commit_fault (ap Ok e))
+
+pub returns-in-Err-clause-executes : goal.returns-in-Err-clause-executes
+returns-in-Err-clause-executes g c text disk landing sink whole knows =
+    let t = g.T.Source in
+    let d = g.D.Disk in
+    let f = g.L.Landing in
+    let s = g.S.Sink in
+    let facts = c.in-Err.ensures in
+    let around : Around = record { text = whole; room = d.room c.args.disk.now; landing = f.present c.args.landing.now } in
+    let old : Standing = record { file = (d.state c.args.disk.now).now.left; printed = s.written c.args.out.now; faults = record { text = t.faults c.args.text.now; disk = d.faults c.args.disk.now; landing = f.faults c.args.landing.now; sink = s.faults c.args.out.now } } in
+    let new : Standing = record { file = (d.state c.args.disk.now).now.left; printed = s.written c.args.out.now; faults = record { text = t.faults c.outcome_of.new.text; disk = d.faults c.args.disk.now; landing = f.faults c.outcome_of.new.landing; sink = s.faults c.args.out.now } } in
+    rw facts.err (ran_out d.tells_moments c.args.command around old new (d.state c.args.disk.now) refl refl (record { text = facts.text_later; disk = omega arith; landing = facts.landing_later; sink = omega arith }))

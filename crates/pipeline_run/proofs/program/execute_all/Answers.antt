@@ -1,9 +1,10 @@
-use Rattle.std.proofs.Common.{rules, ◌≡◌, ◌≢◌, true, false, get_or}
+use Rattle.std.proofs.Common.{rules, ◌≡◌, ◌≢◌, true, false, get_or, refl}
 use Rattle.std.proofs.lemmas.List.{get_or_default}
 use Rattle.pipeline_run.specs.declared.command.Command.TheVariants.{Validate}
 use Rattle.pipeline_run.specs.declared.outcome.Status.TheVariants as status
 use Rattle.pipeline_run.specs.Run.{Around, Standing}
-use Rattle.pipeline_run.proofs.RunLemmas.{goes_on, stops, is_ok_of}
+use Rattle.pipeline_run.proofs.LeaveLemmas.{leaves_itself, leaves_both}
+use Rattle.pipeline_run.proofs.RunLemmas.{begins, next_command, last_command, all_commands, is_ok_of}
 use Rattle.pipeline_run.proofs.program.execute_all.Goals as goal
 
 pub returns-then-ne-clause-runs : goal.returns-then-ne-clause-runs
@@ -17,14 +18,48 @@ returns-then-ne-clause-runs g c text disk landing sink =
     let here : Standing = record { file = (d.state c.loop-command.disk).now.left; printed = s.written c.loop-command.out; faults = record { text = t.faults c.loop-command.text; disk = d.faults c.loop-command.disk; landing = f.faults c.loop-command.landing; sink = s.faults c.loop-command.out } } in
     let mid : Standing = record { file = (d.state c.execute-answer.new.disk).now.left; printed = s.written c.execute-answer.new.out; faults = record { text = t.faults c.execute-answer.new.text; disk = d.faults c.execute-answer.new.disk; landing = f.faults c.execute-answer.new.landing; sink = s.faults c.execute-answer.new.out } } in
     let before = c.loop-command.invariant in
-    let executes = rw (before.room, before.present landing) at (c.execute-answer.ensures.executes text disk landing sink (t.left c.args.text.now) (before.knows text)) in
+    let executed = rw (before.room, before.present landing) at (c.execute-answer.ensures.executes text disk landing sink (t.left c.args.text.now) (before.knows text)) in
     let failed : c.execute-answer.result ≢ status.Ok = λ e. (let same : true ≡ false = rw e at c.if-ne.ensures in cc) in
     let command = get_or c.args.commands.now c.loop-command.command-index Validate in
-    stops around c.args.commands.now c.loop-command.command-index command start here mid c.execute-answer.result c.loop-command-test.true (get_or_default c.args.commands.now c.loop-command.command-index Validate command c.loop-command-test.true) executes failed (before.runs text disk landing sink)
+    last_command d.tells_moments around c.args.commands.now c.loop-command.command-index command start here mid (d.state c.args.disk.now) (d.state c.loop-command.disk) (d.state c.execute-answer.new.disk) c.execute-answer.result
+    c.loop-command-test.true (get_or_default c.args.commands.now c.loop-command.command-index Validate command c.loop-command-test.true) executed failed (before.runs text disk landing sink)
 
 pub returns-then-ne-clause-amount : goal.returns-then-ne-clause-amount
 returns-then-ne-clause-amount g c text =
     c.execute-answer.ensures.amount text (g.T.Source.left c.args.text.now) (c.loop-command.invariant.knows text) (c.loop-command.invariant.amount text)
+
+pub returns-then-ne-clause-stands : goal.returns-then-ne-clause-stands
+returns-then-ne-clause-stands g c disk landing holds stands =
+    let before = c.loop-command.invariant in
+    (rw (before.present landing, before.ever landing) at (c.execute-answer.ensures.stands disk landing)) holds (before.stands disk landing holds stands)
+
+pub returns-then-ne-clause-kept : goal.returns-then-ne-clause-kept
+returns-then-ne-clause-kept g c disk =
+    leaves_both (g.D.Disk.state c.args.disk.now) (g.D.Disk.state c.loop-command.disk) (g.D.Disk.state c.execute-answer.new.disk) (c.loop-command.invariant.kept disk) (c.execute-answer.ensures.kept disk)
+
+pub loop-command-init : goal.loop-command-init
+loop-command-init g c =
+    let t = g.T.Source in
+    let d = g.D.Disk in
+    let f = g.L.Landing in
+    let s = g.S.Sink in
+    let around : Around = record { text = t.left c.args.text.now; room = d.room c.args.disk.now; landing = f.present c.args.landing.now } in
+    let start : Standing = record { file = (d.state c.args.disk.now).now.left; printed = s.written c.args.out.now; faults = record { text = t.faults c.args.text.now; disk = d.faults c.args.disk.now; landing = f.faults c.args.landing.now; sink = s.faults c.args.out.now } } in
+    record {
+      runs = λ text disk landing sink. begins d.tells_moments around c.args.commands.now start (d.state c.args.disk.now);
+      knows = λ text. refl;
+      amount = search rules;
+      room = refl;
+      honest = c.requires.honest;
+      ours = λ disk ours. ours;
+      stands = λ disk landing holds stands. stands;
+      kept = λ disk. leaves_itself (d.state c.args.disk.now);
+      present = λ landing. refl;
+      ever = λ landing. refl;
+      text_later = search rules;
+      disk_later = search rules;
+      sink_later = search rules;
+    }
 
 pub loop-command-preserved : goal.loop-command-preserved
 loop-command-preserved g c =
@@ -43,15 +78,30 @@ loop-command-preserved g c =
     let command = get_or c.args.commands.now c.loop-command.command-index Validate in
     record {
       runs = λ text disk landing sink.
-          goes_on around c.args.commands.now c.loop-command.command-index command start here mid c.execute-answer.result c.loop-command-test.true (get_or_default c.args.commands.now c.loop-command.command-index Validate command c.loop-command-test.true)
+          next_command d.tells_moments around c.args.commands.now c.loop-command.command-index command start here mid (d.state c.args.disk.now) (d.state c.loop-command.disk) (d.state c.execute-answer.new.disk) c.execute-answer.result
+          c.loop-command-test.true (get_or_default c.args.commands.now c.loop-command.command-index Validate command c.loop-command-test.true) refl refl
           (rw (before.room, before.present landing) at (facts.executes text disk landing sink whole (before.knows text))) ok (before.runs text disk landing sink);
       knows = λ text. facts.knows text whole (before.knows text) ok;
       amount = λ text. facts.amount text whole (before.knows text) (before.amount text);
       room = search rules;
-      other = search rules;
+      honest = facts.honest;
+      ours = λ disk ours. facts.ours disk (before.ours disk ours);
+      stands = λ disk landing holds stands. (rw (before.present landing, before.ever landing) at (facts.stands disk landing)) holds (before.stands disk landing holds stands);
+      kept = λ disk. leaves_both (d.state c.args.disk.now) (d.state c.loop-command.disk) (d.state c.execute-answer.new.disk) (before.kept disk) (facts.kept disk);
       present = search rules;
       ever = search rules;
       text_later = search rules;
       disk_later = search rules;
       sink_later = search rules;
     }
+
+pub returns-clause-runs : goal.returns-clause-runs
+returns-clause-runs g c text disk landing sink =
+    let t = g.T.Source in
+    let d = g.D.Disk in
+    let f = g.L.Landing in
+    let s = g.S.Sink in
+    let around : Around = record { text = t.left c.args.text.now; room = d.room c.args.disk.now; landing = f.present c.args.landing.now } in
+    let start : Standing = record { file = (d.state c.args.disk.now).now.left; printed = s.written c.args.out.now; faults = record { text = t.faults c.args.text.now; disk = d.faults c.args.disk.now; landing = f.faults c.args.landing.now; sink = s.faults c.args.out.now } } in
+    let here : Standing = record { file = (d.state c.loop-command.disk).now.left; printed = s.written c.loop-command.out; faults = record { text = t.faults c.loop-command.text; disk = d.faults c.loop-command.disk; landing = f.faults c.loop-command.landing; sink = s.faults c.loop-command.out } } in
+    all_commands d.tells_moments around c.args.commands.now c.loop-command.command-index start here (d.state c.args.disk.now) (d.state c.loop-command.disk) c.loop-command-test.false (c.loop-command.invariant.runs text disk landing sink)

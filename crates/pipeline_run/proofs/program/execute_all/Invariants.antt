@@ -1,7 +1,14 @@
 use Rattle.std.proofs.Common.{◌≡◌, ◌≤◌, ◌+◌, length}
+use Rattle.disk_model.specs.declared.disk.Side.TheVariants.{Right}
+use Rattle.disk_model.specs.Disk.{IsHonest}
+use Rattle.landing_core.specs.Folders.{HoldsPresent}
+use Rattle.commit_gate.specs.AtRest.{LeavesFile}
+use Rattle.store_core.specs.Ours.{IsOurs}
+use Rattle.table_update.specs.Stands.{IsStanding}
 use Rattle.pipeline_run.specs.Pipeline.{text_limit, Knows}
 use Rattle.pipeline_run.specs.Run.{Around, Standing}
-use Rattle.pipeline_run.proofs.RunLemmas.{Continues}
+use Rattle.pipeline_run.specs.Table.{the_table}
+use Rattle.pipeline_run.proofs.RunLemmas.{GoesSo}
 use Rattle.pipeline_run.proofs.program.execute_all.Given as goal
 
 abbrev pub invariant-loop-command : goal.invariant-loop-command
@@ -14,11 +21,15 @@ invariant-loop-command g l =
     let start : Standing = record { file = (d.state l.initial.disk).now.left; printed = s.written l.initial.out; faults = record { text = t.faults l.initial.text; disk = d.faults l.initial.disk; landing = f.faults l.initial.landing; sink = s.faults l.initial.out } } in
     let here : Standing = record { file = (d.state l.disk).now.left; printed = s.written l.out; faults = record { text = t.faults l.text; disk = d.faults l.disk; landing = f.faults l.landing; sink = s.faults l.out } } in
     record {
-      runs : t.tells → d.tells → f.tells → s.tells → Continues around l.commands l.command-index start here;
+      runs : t.tells → d.tells → f.tells → s.tells → GoesSo d.tells_moments around l.commands l.command-index start here (d.state l.initial.disk) (d.state l.disk);
       knows : t.tells → Knows (t.left l.initial.text) l.known (t.left l.text);
       amount : t.tells → length (t.left l.initial.text) ≤ length (t.left l.text) + text_limit;
       room : d.room l.disk ≡ d.room l.initial.disk;
-      other : d.tells → (d.state l.disk).now.right ≡ (d.state l.initial.disk).now.right;
+      honest : d.tells → IsHonest (d.state l.disk);
+      ours : d.tells → IsOurs (d.state l.initial.disk) → IsOurs (d.state l.disk);
+      stands : d.tells → f.tells → HoldsPresent (f.present l.initial.landing) (f.ever l.initial.landing) → IsStanding the_table (f.ever l.initial.landing) (d.state l.initial.disk)
+          → IsStanding the_table (f.ever l.initial.landing) (d.state l.disk);
+      kept : d.tells → LeavesFile Right (d.state l.initial.disk) (d.state l.disk);
       present : f.tells → f.present l.landing ≡ f.present l.initial.landing;
       ever : f.tells → f.ever l.landing ≡ f.ever l.initial.landing;
       text_later : t.faults l.initial.text ≤ t.faults l.text;

@@ -1,7 +1,0 @@
-use Rattle.std.proofs.Common.{◌≡◌, ◌-◌}
-use Rattle.plain_store.specs.Reading.{items_at, change_at}
-use Rattle.plain_store.proofs.LoopLemmas.{with_front}
-use Rattle.plain_store.proofs.reading.changes_of.Given as goal
-
-abbrev pub invariant-loop : goal.invariant-loop
-invariant-loop l = with_front l.changes.items (items_at change_at (l.count - l.counter) l.rest) ≡ items_at change_at l.count l.bytes
