@@ -3,6 +3,7 @@ use Rattle.std.proofs.Common.{◌≡◌, ◌≢◌, ℕ, ◌<◌, ◌≤◌, Lis
 use Rattle.std.specs.Prelude.{option_and_then}
 use Rattle.std.proofs.lemmas.Bool.{cases_lt}
 use Rattle.sql_tokens.specs.declared.lexical.Context.TheVariants.{Open}
+use Rattle.sql_tokens.specs.declared.error.SqlRefusal.{SqlRefusal}
 use Rattle.sql_tokens.specs.declared.error.SqlRefusal.TheVariants.{Memory, TextTooLong}
 use Rattle.sql_tokens.specs.Lexical.{Text}
 use Rattle.sql_tokens.specs.Scanning.{Answer, Scans, max_text}
@@ -21,6 +22,9 @@ pub scan_of : (text : Text) (r : Answer) → (max_text < length text → r ≡ E
     (length text ≤ max_text → IsUtf8 text → r ≢ Err Memory → Scans Open 0 text [] r) → IsUtf8 text → r ≢ Err Memory → IsScanned text r
 scan_of text r long scans utf8 some =
     ⊎_elim (λ past. subst (IsScanned text) (sym (long past)) (too_long past)) (λ short. scanned short (scans short utf8 some)) (cases_lt max_text (length text))
+
+pub not_memory : (e : SqlRefusal) → (e ≡ Memory → ⊥) → ◌≢◌ {A = Answer} (Err e) (Err Memory)
+not_memory e other same = let here : e ≡ Memory = cc in other here
 
 -- ---- one answer
 

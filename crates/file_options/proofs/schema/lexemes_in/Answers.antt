@@ -1,7 +1,7 @@
 use Rattle.std.proofs.Common.{ap, ◌∙◌, map, subst, Some, None, Ok, Err, refl}
 use Rattle.sql_lexemes.specs.Lexing.{lexeme_of}
 use Rattle.file_options.specs.Schemas.{HasLexemes}
-use Rattle.file_options.proofs.Scans.{scan_of}
+use Rattle.file_options.proofs.Scans.{scan_of, not_memory}
 use Rattle.file_options.proofs.schema.lexemes_in.Goals as goal
 
 pub returns-in_ok-lexemes-in-Ok : goal.returns-in_ok-lexemes-in-Ok
@@ -21,7 +21,7 @@ returns-in_default c =
     let e = c.in-Err.ensures in
     let found : HasLexemes text None = record {
       scan = Err c.in-Err.refusal;
-      scanned = scan_of text (Err c.in-Err.refusal) e.too_long e.scanned c.as_bytes-bytes.ensures.utf8 (let n = c.in_default in ?);
+      scanned = scan_of text (Err c.in-Err.refusal) e.too_long e.scanned c.as_bytes-bytes.ensures.utf8 (not_memory c.in-Err.refusal c.in_default.not-Memory);
       read = refl;
     } in
     subst (λ z. HasLexemes z None) c.as_bytes-bytes.ensures.value found
