@@ -23,7 +23,8 @@ use Rattle.file_options.specs.Rules.{By, then_by, no_option, files_with, ended_b
 same_symm : (a b : Word) → same_name a b ≡ same_name b a
 same_symm a b = nat_list_eq_equiv.symm (folded a) (folded b)
 
-none_at : (test : Column → Bool) (columns : List Column) (at : ℕ) (d : Column) → list_any test columns ≡ false → at < length columns → test (get_or columns at d) ≡ false
+none_at : (test : Column → Bool) (columns : List Column) (at : ℕ) (d : Column) → list_any test columns ≡ false →
+    at < length columns → test (get_or columns at d) ≡ false
 none_at test columns at d none within = false_from_ne_true _ (λ here. both_ways (list_any test columns) none (list_any_at test columns at d within here))
 
 pub pairs_distinct : (columns : List Column) → are_distinct columns ≡ true → HasDistinctNames columns
@@ -36,14 +37,16 @@ pairs_distinct (first ∷ others) h zero (suc j) d before within =
 pairs_distinct (first ∷ others) h (suc i) (suc j) d before within =
     pairs_distinct others (and_parts (not (has_name others first.name)) (are_distinct others) h).1 i j d (omega arith) (omega arith)
 
-distinct_more : (columns : List Column) (last : Column) → are_distinct columns ≡ true → has_name columns last.name ≡ false → are_distinct (columns ++ last ∷ []) ≡ true
+distinct_more : (columns : List Column) (last : Column) → are_distinct columns ≡ true → has_name columns last.name ≡ false →
+    are_distinct (columns ++ last ∷ []) ≡ true
 distinct_more [] last h new = refl
 distinct_more (first ∷ others) last h new =
     let parts = and_parts (not (has_name others first.name)) (are_distinct others) h in
     let news = or_parts (same_name first.name last.name) (has_name others last.name) new in
     let same = same_symm last.name first.name ∙ news.0 in
-    let none = list_any-append (λ found. same_name found.name first.name) others (last ∷ [])
-            ∙ or_from (has_name others first.name) (same_name last.name first.name || false) (not-true (has_name others first.name) parts.0) (or_from (same_name last.name first.name) false same refl) in
+    let later = or_from (same_name last.name first.name) false same refl in
+    let both = or_from (has_name others first.name) (same_name last.name first.name || false) (not-true (has_name others first.name) parts.0) later in
+    let none = list_any-append (λ found. same_name found.name first.name) others (last ∷ []) ∙ both in
     and_from (not (has_name (others ++ last ∷ []) first.name)) (are_distinct (others ++ last ∷ []))
     (not_from_false (has_name (others ++ last ∷ []) first.name) none) (distinct_more others last parts.1 news.1)
 
@@ -55,11 +58,13 @@ refused columns name = (length name == 0) || has_name columns name
 abbrev IsMade : List Column → Word → List Column → Type 0
 IsMade columns name all = (has_name columns name ≡ false) × (all ≡ columns ++ column name kind.Str ∷ [])
 
-made : (columns all : List Column) (name : Word) (test : Bool) → refused columns name ≡ test → cond test None (Some (columns ++ column name kind.Str ∷ [])) ≡ Some all → IsMade columns name all
+made : (columns all : List Column) (name : Word) (test : Bool) → refused columns name ≡ test →
+    cond test None (Some (columns ++ column name kind.Str ∷ [])) ≡ Some all → IsMade columns name all
 made columns all name true e h = absurd (cc)
 made columns all name false e h = ((or_parts (length name == 0) (has_name columns name) e).1, (cc))
 
-pub distinct_all : (columns all : List Column) (set : Option OptionValue) → are_distinct columns ≡ true → with_rescued columns set ≡ Some all → are_distinct all ≡ true
+pub distinct_all : (columns all : List Column) (set : Option OptionValue) → are_distinct columns ≡ true →
+    with_rescued columns set ≡ Some all → are_distinct all ≡ true
 distinct_all columns all None h e = let same : columns ≡ all = cc in ap are_distinct (sym same) ∙ h
 distinct_all columns all (Some (value.Bool truth)) h e = absurd (cc)
 distinct_all columns all (Some (value.Str name)) h e =
@@ -73,7 +78,8 @@ text_last columns all (Some (value.Str name)) e some = (columns, name, (made col
 
 -- ---- the schema
 
-sound_if : (columns : List Column) (found : List Column) (test : Bool) → are_sound found ≡ test → Some columns ≡ cond test (Some found) None → are_sound columns ≡ true
+sound_if : (columns : List Column) (found : List Column) (test : Bool) → are_sound found ≡ test →
+    Some columns ≡ cond test (Some found) None → are_sound columns ≡ true
 sound_if columns found true e h = let same : columns ≡ found = cc in ap are_sound same ∙ e
 sound_if columns found false e h = absurd (cc)
 
@@ -95,9 +101,11 @@ sound_schema columns (Some (value.Str text)) h = sound_read columns h.lexemes h.
 abbrev IsShaped : Option (List Column) → Bool → FilesRead → Type 0
 IsShaped all rescued files = (all ≡ Some files.shape.columns) × (files.shape.rescued ≡ rescued)
 
-shaped : (dir : List ℕ) (format : Format) (rescued : Bool) (files : FilesRead) (sep : Option ℕ) (header : Option Bool) (idle : Option Word) (all : Option (List Column)) →
-    then_by (ok_or sep (codes "sep")) (λ s. then_by (ok_or header (codes "header")) (λ h. then_by (no_option idle) (λ _. then_by (ok_or all (codes "rescuedDataColumn")) (λ a.
-        Ok (files_with dir format a rescued h s))))) ≡ Ok files → IsShaped all rescued files
+shaped : (dir : List ℕ) (format : Format) (rescued : Bool) (files : FilesRead) (sep : Option ℕ) (header : Option Bool) (idle : Option Word)
+    (all : Option (List Column)) →
+    then_by (ok_or sep (codes "sep")) (λ s. then_by (ok_or header (codes "header")) (λ h.
+    then_by (no_option idle) (λ _. then_by (ok_or all (codes "rescuedDataColumn")) (λ a.
+    Ok (files_with dir format a rescued h s))))) ≡ Ok files → IsShaped all rescued files
 shaped dir format rescued files None header idle all e = absurd (cc)
 shaped dir format rescued files (Some s) None idle all e = absurd (cc)
 shaped dir format rescued files (Some s) (Some h) (Some word) all e = absurd (cc)

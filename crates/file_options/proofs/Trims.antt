@@ -42,8 +42,10 @@ end_cut : (ns s r : List ℕ) → CutsSuffixes (FindsCharSuffix 47) s ns r → w
 end_cut [] s r h = ap (λ z. without_leading_slashes (reverse z)) (sym h)
 end_cut (n ∷ ns) s r h =
     let m = h.0 in
-    let last : drop (length m - n) m ≡ 47 ∷ [] = drop_at_char 47 m (length m - n) (length m) h.2.1 (omega arith) ∙ ap (λ z. 47 ∷ z) (drop_all (length m) m (omega arith)) in
-    let whole : m ≡ r ++ 47 ∷ [] = sym (take-append-drop (length m - n) m) ∙ (ap (λ z. z ++ drop (length m - n) m) (sym h.3) ∙ ap (λ z. r ++ z) last) in
+    let ends : drop (length m - n) m ≡ 47 ∷ drop (length m) m = drop_at_char 47 m (length m - n) (length m) h.2.1 (omega arith) in
+    let last : drop (length m - n) m ≡ 47 ∷ [] = ends ∙ ap (λ z. 47 ∷ z) (drop_all (length m) m (omega arith)) in
+    let front : m ≡ r ++ drop (length m - n) m = sym (take-append-drop (length m - n) m) ∙ ap (λ z. z ++ drop (length m - n) m) (sym h.3) in
+    let whole : m ≡ r ++ 47 ∷ [] = front ∙ ap (λ z. r ++ z) last in
     let step : without_leading_slashes (reverse m) ≡ without_leading_slashes (reverse r) = ap without_leading_slashes (ap reverse whole ∙ reverse-append r (47 ∷ [])) in
     end_cut ns s m h.1 ∙ step
 

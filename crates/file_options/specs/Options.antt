@@ -10,9 +10,13 @@ use Rattle.value_core.specs.declared.cursor.Format.TheVariants.{Json, Csv}
 abbrev pub Word : Type 0
 Word = List ℕ
 
+-- the first option of a word
+abbrev pub option_named : Word → List SqlOption → Option SqlOption
+option_named word options = find (λ option. bytes_eq option.word word) options
+
 -- what an option is set to, if it is there
 abbrev pub set_to : Word → List SqlOption → Option OptionValue
-set_to word options = option_map (λ option. option.value) (find (λ option. bytes_eq option.word word) options)
+set_to word options = option_map (λ option. option.value) (option_named word options)
 
 -- ---- words, byte for byte
 

@@ -92,15 +92,13 @@ fn ended(
 /// The first rule that is broken is answered: the path is a folder; the options are known, each
 /// once; the format; the schema; `sep`; `header`; neither of these two stands with json; the
 /// rescued name.
-pub fn files_of(
-    alloc: Global,
-    path: &Text,
-    options: &SqlOptions,
-) -> Result<FilesRead, OptionEnd>
+pub fn files_of(alloc: Global, path: &Text, options: &SqlOptions) -> Result<FilesRead, OptionEnd>
     ensures read { IfOk result (λ files. FilesBy path.now options.now (Ok files)) }
-    ensures broken { IfErr result (λ end. OnBad end (λ word. FilesBy path.now options.now (Err word))) }
+    ensures broken { IfErr result (λ end.
+        OnBad end (λ word. FilesBy path.now options.now (Err word))) }
     ensures distinct { IfOk result (λ files. HasDistinctNames files.shape.columns) }
-    ensures rescued { IfOk result (λ files. IsTrue files.shape.rescued → EndsInText files.shape.columns) }
+    ensures rescued { IfOk result (λ files.
+        IsTrue files.shape.rescued → EndsInText files.shape.columns) }
 {
     let options = options.as_slice();
     let (dir, format) = match begun(alloc, path.as_str(), options) {

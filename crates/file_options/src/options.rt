@@ -1,4 +1,4 @@
-ghost use Rattle.std.specs.Prelude.{◌≡◌, ◌∷◌, bytes_eq, find, option_map};
+ghost use Rattle.std.specs.Prelude.{◌≡◌, find};
 ghost use Rattle.std.specs.Option.{option_copied};
 ghost use Rattle.file_options.specs.Options as spec;
 
@@ -6,7 +6,7 @@ use sql_tree::{OptionValue, SqlOption};
 use value_core::{Format, Name};
 
 fn option_named<'a>(options: &'a [SqlOption], word: &str) -> Option<&'a SqlOption>
-    ensures { option_copied result ≡ find (λ option. bytes_eq option.word word.now) options.entry.now }
+    ensures { option_copied result ≡ spec.option_named word.now options.entry.now }
 {
     options.iter().find(|option| option.word.as_str() == word)
 }

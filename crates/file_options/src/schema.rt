@@ -177,12 +177,9 @@ pub fn schema_of(alloc: Global, options: &[SqlOption]) -> Result<Option<Schema>,
     Ok(columns)
 }
 
-fn with_column(
-    alloc: Global,
-    mut columns: Schema,
-    name: &str,
-) -> Result<Option<Schema>, AllocError>
-    ensures { IfOk result (λ all. all ≡ spec.with_rescued columns (Some (OptionValue.Str name.now))) }
+fn with_column(alloc: Global, mut columns: Schema, name: &str) -> Result<Option<Schema>, AllocError>
+    ensures { IfOk result (λ all.
+        all ≡ spec.with_rescued columns (Some (OptionValue.Str name.now))) }
 {
     if name.is_empty() || has_name(columns.as_slice(), name) {
         return Ok(None);

@@ -86,57 +86,109 @@ fn the_schema_lists_columns(rt: HostRuntime) -> Result<(), Fail> {
     Ok(())
 }
 
+/// Whether this is the word of the first rule that is broken.
+fn tells(alloc: Global, path: &str, pairs: &[(&str, &str)], wanted: &str) -> bool {
+    match broken(alloc, path, pairs) {
+        Ok(word) => word.as_str() == wanted,
+        Err(AllocError) => false,
+    }
+}
+
 #[test]
-fn each_rule_has_its_word(rt: HostRuntime) -> Result<(), Fail> {
+fn options_have_their_words(rt: HostRuntime) -> Result<(), Fail> {
+    let m = rt.alloc();
     let json = ("format", "json");
     let csv = ("format", "csv");
     let schema = ("schema", "a INT");
-    let cases: [(&[(&str, &str)], &str); 17] = [
-        (&[csv, schema, ("sep", ";"), ("header", "true")], ""),
-        (&[json, schema, ("rescuedDataColumn", "b")], ""),
-        (&[("Format", "json"), schema], "Format"),
-        (&[json, schema, ("mode", "x"), ("size", "1")], "mode"),
-        (&[json, schema, csv], "format"),
-        (&[schema], "format"),
-        (&[("format", "JSON"), schema], "format"),
-        (&[json], "schema"),
-        (&[csv, schema, ("sep", "")], "sep"),
-        (&[csv, schema, ("sep", ";;")], "sep"),
-        (&[csv, schema, ("sep", "\"")], "sep"),
-        (&[csv, schema, ("sep", "é")], "sep"),
-        (&[csv, schema, ("header", "TRUE")], "header"),
-        (&[json, schema, ("header", "false")], "header"),
-        (&[json, schema, ("sep", ";"), ("header", "true")], "sep"),
-        (&[json, schema, ("rescuedDataColumn", "")], "rescuedDataColumn"),
-        (&[json, schema, ("rescuedDataColumn", "A")], "rescuedDataColumn"),
+    assert!(rt; tells(m, "in", &[("Format", "json"), schema], "Format"));
+    assert!(rt;
+        tells(
+            m,
+            "in",
+            &[json, schema, ("mode", "x"), ("size", "1")],
+            "mode"
+        )
+    );
+    assert!(rt; tells(m, "in", &[json, schema, csv], "format"));
+    assert!(rt; tells(m, "in", &[schema], "format"));
+    assert!(rt; tells(m, "in", &[("format", "JSON"), schema], "format"));
+    assert!(rt; tells(m, "in", &[json], "schema"));
+    Ok(())
+}
+
+#[test]
+fn a_separator_is_one_character(rt: HostRuntime) -> Result<(), Fail> {
+    let cases: [(&str, &str); 6] = [
+        (";", ""),
+        ("", "sep"),
+        (";;", "sep"),
+        ("\"", "sep"),
+        ("\n", "sep"),
+        ("é", "sep"),
     ];
-    for (options, wanted) in cases {
-        let word = broken(rt.alloc(), "in", options)?;
-        assert!(rt; word.as_str() == wanted, "{wanted}");
+    for (sep, wanted) in cases {
+        let options = [("format", "csv"), ("schema", "a INT"), ("sep", sep)];
+        let word = broken(rt.alloc(), "in", &options)?;
+        assert!(rt; word.as_str() == wanted, "{sep}");
+    }
+    Ok(())
+}
+
+#[test]
+fn json_has_neither_header_nor_separator(rt: HostRuntime) -> Result<(), Fail> {
+    let m = rt.alloc();
+    let json = ("format", "json");
+    let csv = ("format", "csv");
+    let schema = ("schema", "a INT");
+    let header = ("header", "false");
+    assert!(rt; tells(m, "in", &[csv, schema, header], ""));
+    assert!(rt; tells(m, "in", &[csv, schema, ("header", "TRUE")], "header"));
+    assert!(rt; tells(m, "in", &[json, schema, header], "header"));
+    assert!(rt; tells(m, "in", &[json, schema, ("sep", ";"), header], "sep"));
+    Ok(())
+}
+
+#[test]
+fn a_rescued_name_is_new(rt: HostRuntime) -> Result<(), Fail> {
+    let cases: [(&str, &str); 3] = [
+        ("b", ""),
+        ("", "rescuedDataColumn"),
+        ("A", "rescuedDataColumn"),
+    ];
+    for (name, wanted) in cases {
+        let options = [
+            ("format", "json"),
+            ("schema", "a INT"),
+            ("rescuedDataColumn", name),
+        ];
+        let word = broken(rt.alloc(), "in", &options)?;
+        assert!(rt; word.as_str() == wanted, "{name}");
     }
     Ok(())
 }
 
 #[test]
 fn the_first_rule_is_told(rt: HostRuntime) -> Result<(), Fail> {
+    let m = rt.alloc();
     let json = ("format", "json");
     let csv = ("format", "csv");
+    let bad = ("schema", "a");
     let schema = ("schema", "a INT");
     let rescued = ("rescuedDataColumn", "a");
-    let cases: [(&str, &[(&str, &str)], &str); 8] = [
-        ("..", &[("x", ""), json, schema], "path"),
-        ("in", &[("x", ""), schema], "x"),
-        ("in", &[("format", "xml"), ("schema", "a")], "format"),
-        ("in", &[csv, ("sep", ""), ("schema", "a")], "schema"),
-        ("in", &[csv, ("header", "x"), ("sep", ""), schema], "sep"),
-        ("in", &[json, ("sep", ";"), ("header", "x"), schema], "header"),
-        ("in", &[csv, rescued, ("header", "x"), schema], "header"),
-        ("in", &[json, rescued, ("sep", ";"), schema], "sep"),
-    ];
-    for (path, options, wanted) in cases {
-        let word = broken(rt.alloc(), path, options)?;
-        assert!(rt; word.as_str() == wanted, "{wanted}");
-    }
+    assert!(rt; tells(m, "..", &[("x", ""), json, schema], "path"));
+    assert!(rt; tells(m, "in", &[("x", ""), schema], "x"));
+    assert!(rt; tells(m, "in", &[("format", "xml"), bad], "format"));
+    assert!(rt; tells(m, "in", &[csv, ("sep", ""), bad], "schema"));
+    assert!(rt; tells(m, "in", &[csv, ("header", "x"), ("sep", ""), schema], "sep"));
+    assert!(rt;
+        tells(
+            m,
+            "in",
+            &[json, ("sep", ";"), ("header", "x"), schema],
+            "header"
+        )
+    );
+    assert!(rt; tells(m, "in", &[json, rescued, ("sep", ";"), schema], "sep"));
     Ok(())
 }
 

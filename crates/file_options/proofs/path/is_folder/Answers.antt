@@ -7,4 +7,5 @@ use Rattle.file_options.proofs.path.is_folder.Goals as goal
 pub returns : goal.returns
 returns c =
     all_from_yields_List is_segment _ _ _ c.all.ensures.ran
-    (YieldsList-from_str_split 47 c.args.path.now (omega arith) c.split.ensures.text c.split.ensures.has_more c.split.ensures.pattern) (λ x b q k. search (rules, tests))
+    (YieldsList-from_str_split 47 c.args.path.now (omega arith) c.split.ensures.text c.split.ensures.has_more c.split.ensures.pattern)
+    (λ x b q k. search (rules, tests))
