@@ -1,6 +1,6 @@
 -- The columns of a schema and the rescued one.
-use Rattle.std.proofs.Common.{◌≡◌, ℕ, zero, suc, ◌<◌, ◌==◌, Bool, true, false, cond, not, ◌&&◌, ◌||◌, List, [], ◌∷◌, ◌++◌, length, get_or, Option, Some, None, Result, Ok, Err, refl, sym, ap, ◌∙◌, arith}
-use Rattle.std.specs.Prelude.{is_some, ok_or, codes, option_and_then, option_map}
+use Rattle.std.proofs.Common.{◌≡◌, ℕ, zero, suc, ◌<◌, ◌==◌, Bool, true, false, cond, not, ◌||◌, List, [], ◌∷◌, ◌++◌, length, get_or, Option, Some, None, Ok, refl, sym, ap, ◌∙◌, arith}
+use Rattle.std.specs.Prelude.{is_some, ok_or, codes, option_and_then}
 use Rattle.std.specs.List.{list_any}
 use Rattle.std.proofs.lemmas.Bool.{and_parts, and_from, or_parts, or_from, both_ways, false_from_ne_true, not-true, not_from_false}
 use Rattle.std.proofs.lemmas.Cmp.{nat_list_eq_equiv}
@@ -16,7 +16,7 @@ use Rattle.value_core.specs.NameFold.{folded, same_name}
 use Rattle.file_options.specs.declared.files.FilesRead.{FilesRead}
 use Rattle.file_options.specs.Options.{Word, set_to, separator_of, header_of, idle_word}
 use Rattle.file_options.specs.Schemas.{column, has_name, are_distinct, are_sound, if_sound, listed, columns_of, SchemaBy, SchemaOf, with_rescued}
-use Rattle.file_options.specs.Rules.{By, then_by, no_option, files_with, ended_by, HasDistinctNames, EndsInText}
+use Rattle.file_options.specs.Rules.{then_by, no_option, files_with, ended_by, HasDistinctNames, EndsInText}
 
 -- ---- names
 

@@ -14,8 +14,7 @@ use Rattle.sql_tree.specs.declared.statement.SqlOption.{SqlOption}
 use Rattle.value_core.specs.declared.cursor.Format.{Format}
 use Rattle.value_core.specs.declared.schema.Column.{Column}
 use Rattle.file_options.specs.declared.files.FilesRead.{FilesRead}
-use Rattle.file_options.specs.Options.{set_to}
-use Rattle.file_options.specs.Schemas.{IsScanned, too_long, scanned, HasLexemes, lexemes_by, columns_of, Lists, SchemaBy}
+use Rattle.file_options.specs.Schemas.{IsScanned, too_long, scanned, HasLexemes, lexemes_by, columns_of, SchemaBy}
 use Rattle.file_options.specs.Rules.{By, Ends, ended_by}
 
 pub scan_of : (text : Text) (r : Answer) → (max_text < length text → r ≡ Err TextTooLong) →

@@ -1,9 +1,8 @@
 -- The rules of `read_files`, in their order (Databricks SQL reference, read_files).
-use Rattle.std.specs.Prelude.{◌≡◌, ◌≢◌, ℕ, List, [], ◌∷◌, ◌++◌, codes, Bool, IsTrue, AllPairs, not, Option, Some, None, is_some, ok_or, Result, Ok, Err}
+use Rattle.std.specs.Prelude.{◌≡◌, ℕ, List, [], ◌∷◌, ◌++◌, codes, Bool, IsTrue, AllPairs, not, Option, Some, None, is_some, ok_or, Result, Ok, Err}
 use Rattle.sql_tree.specs.declared.statement.SqlOption.{SqlOption}
 use Rattle.value_core.specs.declared.cursor.Format.{Format}
 use Rattle.value_core.specs.declared.schema.Column.{Column}
-use Rattle.value_core.specs.declared.shape.Shape.{Shape}
 use Rattle.value_core.specs.declared.value.Kind.TheVariants as kind
 use Rattle.value_core.specs.NameFold.{same_name}
 use Rattle.file_options.specs.declared.ending.OptionEnd.{OptionEnd}
@@ -30,7 +29,8 @@ abbrev pub no_option : Option Word → By (Unit {0})
 no_option None = Ok tt
 no_option (Some word) = Err word
 
--- The path, the words of the options, and the format.
+-- The first three rules: the path is a folder; each option is known and stands once, else the first that does not is named;
+-- the format is there.
 abbrev pub begun_by : List ℕ → List SqlOption → By (List ℕ × Format)
 begun_by path options = do
   dir ← ok_or (folder_of path) (codes "path")
@@ -42,7 +42,8 @@ abbrev pub files_with : List ℕ → Format → List Column → Bool → Bool �
 files_with dir format columns rescued header sep =
     record { dir = dir; shape = record { format = format; columns = columns; rescued = rescued; header = header; sep = sep } }
 
--- The schema, the separator, the header, what JSON has no use for, and the rescued name.
+-- The other five: the schema lists columns; `sep` is one character; `header` is a truth; neither of these two stands with json,
+-- else the first of them is named; the rescued name is new.
 abbrev pub ended_by : List ℕ → Format → Option (List Column) → List SqlOption → By FilesRead
 ended_by dir format schema options = do
   columns ← ok_or schema (codes "schema")
@@ -52,7 +53,7 @@ ended_by dir format schema options = do
   all ← ok_or (with_rescued columns (set_to (codes "rescuedDataColumn") options)) (codes "rescuedDataColumn")
   Ok (files_with dir format all (is_some (set_to (codes "rescuedDataColumn") options)) header sep)
 
--- What the first rules give goes on with the columns of the schema.
+-- What the first three give goes on with the columns of the schema, which a scan finds.
 abbrev pub Ends : List SqlOption → By (List ℕ × Format) → By FilesRead → Type 0
 Ends options (Err word) answer = answer ≡ Err word
 Ends options (Ok begun) answer = (schema : Option (List Column)) × SchemaOf options schema × (answer ≡ ended_by begun.0 begun.1 schema options)

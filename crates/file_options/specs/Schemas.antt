@@ -1,5 +1,5 @@
 -- The columns of a schema.
-use Rattle.std.specs.Prelude.{◌≡◌, ℕ, ◌==◌, nat_le, ◌≤◌, ◌<◌, List, [], ◌∷◌, ◌++◌, map, length, codes, Bool, true, false, not, ◌&&◌, ◌||◌, if◌then◌else◌, Option, Some, None, option_map, option_and_then, Result, Ok, Err}
+use Rattle.std.specs.Prelude.{◌≡◌, ℕ, ◌==◌, nat_le, ◌≤◌, ◌<◌, List, [], ◌∷◌, ◌++◌, map, length, codes, Bool, true, not, ◌&&◌, ◌||◌, if◌then◌else◌, Option, Some, None, option_map, option_and_then, Ok, Err}
 use Rattle.std.specs.List.{list_any}
 use Rattle.sql_tokens.specs.declared.error.SqlRefusal.TheVariants.{TextTooLong}
 use Rattle.sql_tokens.specs.declared.lexical.Context.TheVariants.{Open}
@@ -21,7 +21,7 @@ use Rattle.file_options.specs.Options.{Word, set_to}
 
 -- ---- the tokens of a text
 
--- a text of more than 1 MiB has none, and any other one has those of its scan from the front
+-- a text of more than 1 MiB has none, and any other one, which is UTF-8 as each `Text` is, has those of its scan from the front
 pub data IsScanned (text : List ℕ) : Answer → Type 0 where
   too_long : max_text < length text → IsScanned text (Err TextTooLong)
   scanned : {answer : Answer} → length text ≤ max_text → Scans Open 0 text [] answer → IsScanned text answer
