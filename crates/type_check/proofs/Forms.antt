@@ -1,9 +1,14 @@
 -- Items that are all columns, and checks in two parts.
-use Rattle.std.proofs.Common.{◌≡◌, Bool, true, false, ◌&&◌, List, [], ◌∷◌, ◌++◌, map, Option, Some, None, refl}
+use Rattle.std.proofs.Common.{◌≡◌, ℕ, Bool, true, false, ◌&&◌, if◌then◌else◌, List, [], ◌∷◌, ◌++◌, map, Option, Some, None, option_and_then, refl, ap, ◌∙◌}
 use Rattle.std.specs.List.{list_all}
 use Rattle.std.specs.Option.{option_or}
+use Rattle.sql_tree.specs.declared.statement.Select.{Select}
+use Rattle.sql_tree.specs.declared.statement.SqlItem.{SqlItem}
+use Rattle.sql_tree.specs.declared.statement.SqlOrigin.{SqlOrigin}
+use Rattle.sql_tree.specs.declared.statement.SqlOrigin.TheVariants as origin
+use Rattle.value_core.specs.declared.schema.Column.{Column}
 use Rattle.row_expr.specs.Typing.{all, all_from, first_of}
-use Rattle.type_check.specs.Form.{is_there}
+use Rattle.type_check.specs.Form.{is_there, declared_column, is_plain_select, form_over, form_with, reads_files}
 
 one_there : {A B : Type 0} (make : A → Option B) (so_far : List B) (made : Option B) (more : List A) →
     ((so_far : List B) → is_there (all_from so_far (map make more)) ≡ list_all (λ a. is_there (make a)) more) →
@@ -18,6 +23,20 @@ there_from make so_far (a ∷ more) = one_there make so_far (make a) more (λ be
 -- all are there where each is
 pub all_there : {A B : Type 0} (make : A → Option B) (list : List A) → is_there (all (map make list)) ≡ list_all (λ a. is_there (make a)) list
 all_there make list = there_from make [] list
+
+with_there : (plain : Bool) (declared : Option (List Column)) (name : List ℕ) (select : Select) (from : SqlOrigin) →
+    is_there (if plain then option_and_then (λ columns. form_over name columns select from) declared else None) ≡ (plain && is_there declared && reads_files from)
+with_there false declared name select from = refl
+with_there true None name select from = refl
+with_there true (Some columns) name select (origin.Table stream table) = refl
+with_there true (Some columns) name select (origin.Files stream path options) = refl
+
+-- a table with AS is of the form where its query is plain, its items are columns and it reads files
+pub form_there : (name : List ℕ) (items : List SqlItem) (select : Select) →
+    is_there (form_with name items select) ≡ (is_plain_select select && list_all (λ item. is_there (declared_column item)) items && reads_files select.origin)
+form_there name items select =
+    with_there (is_plain_select select) (all (map declared_column items)) name select select.origin
+    ∙ ap (λ columns. is_plain_select select && columns && reads_files select.origin) (all_there declared_column items)
 
 -- the first of two lists is that of the first one, or else that of the second one
 pub first_of_both : {A : Type 0} (front back : List (Option A)) → first_of (front ++ back) ≡ option_or (first_of front) (first_of back)

@@ -1,6 +1,6 @@
 //! Which statements are of the built form.
 
-ghost use Rattle.std.specs.Prelude.{◌≡◌, IfOk, map};
+ghost use Rattle.std.specs.Prelude.{◌≡◌, ℕ, List, IfOk, map};
 ghost use Rattle.std.specs.List.{list_all};
 ghost use Rattle.std.specs.Option.{option_copied};
 ghost use Rattle.row_expr.specs.Typing.{all, kind_of_type};
@@ -98,7 +98,7 @@ fn is_column(item: &SqlItem) -> bool
 }
 
 fn are_columns(items: &[SqlItem]) -> bool
-    ensures { result ≡ spec.is_there (all (map spec.declared_column items.now)) }
+    ensures { result ≡ list_all (λ item. spec.is_there (spec.declared_column item)) items.now }
 {
     items.iter().all(|item| is_column(item))
 }
