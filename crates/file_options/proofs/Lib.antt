@@ -1,0 +1,4 @@
+pub mod Trims
+pub mod Lists
+pub mod Scans
+pub mod Columns

@@ -1,0 +1,10 @@
+use Rattle.std.proofs.Common.{arith, rules, tests}
+use Rattle.std.proofs.lemmas.Iterator.Search.{all_from_yields_List}
+use Rattle.std.proofs.lemmas.Iterator.Splits.{YieldsList-from_str_split}
+use Rattle.file_options.specs.Paths.{is_segment}
+use Rattle.file_options.proofs.path.is_folder.Goals as goal
+
+pub returns : goal.returns
+returns c =
+    all_from_yields_List is_segment _ _ _ c.all.ensures.ran
+    (YieldsList-from_str_split 47 c.args.path.now (omega arith) c.split.ensures.text c.split.ensures.has_more c.split.ensures.pattern) (λ x b q k. search (rules, tests))

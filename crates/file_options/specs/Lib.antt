@@ -1,0 +1,4 @@
+pub mod Paths
+pub mod Options
+pub mod Schemas
+pub mod Rules
