@@ -1,4 +1,5 @@
 pub mod Forms
-pub mod Names
+pub mod Repeats
 pub mod Places
 pub mod Plans
+pub mod Tells

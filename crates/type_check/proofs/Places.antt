@@ -1,5 +1,5 @@
 -- An output reads a column of its kind.
-use Rattle.std.proofs.Common.{◌≡◌, ℕ, suc, ◌+◌, ◌<◌, ◌≤◌, Bool, true, cond, List, [], ◌∷◌, ◌++◌, map, flat_map, length, drop, get_or, Option, Some, None, refl, sym, ap, subst, ◌∙◌, length-append, arith}
+use Rattle.std.proofs.Common.{◌≡◌, ℕ, suc, ◌+◌, ◌<◌, ◌≤◌, Bool, true, cond, List, [], ◌∷◌, ◌++◌, map, flat_map, length, drop, get_or, Option, Some, None, refl, sym, ap, subst, ◌∙◌, length-append, arith, rules}
 use Rattle.std.specs.Prelude.{slice_get, unwrap_or, option_map, option_and_then, option_to_list}
 use Rattle.std.specs.List.{AllByRecursion}
 use Rattle.std.proofs.lemmas.List.{append_assoc, append-nil, drop_more, drop_all}
@@ -9,8 +9,9 @@ use Rattle.sql_tree.specs.declared.statement.Out.TheVariants as out
 use Rattle.value_core.specs.declared.schema.Column.{Column}
 use Rattle.value_core.specs.declared.value.Kind.{Kind}
 use Rattle.value_core.specs.declared.value.Kind.TheVariants as kind
-use Rattle.row_expr.specs.Columns.{is_kind}
-use Rattle.row_expr.specs.Kinds.{same_kind}
+use Rattle.row_expr.specs.Columns.{is_kind, reads_within}
+use Rattle.row_expr.specs.declared.sort.Sort.TheVariants.{Of}
+use Rattle.row_expr.specs.Kinds.{kind_in, same_kind, sort_of}
 use Rattle.plan_core.specs.Sound.{kinds_of, kind_over, kinds_over, all_there}
 use Rattle.type_check.specs.declared.outputs.Output.{Output}
 use Rattle.type_check.specs.Form.{column, plain_name}
@@ -28,7 +29,10 @@ same_self kind.Str = refl
 
 kind_read : (kinds : List Kind) (each : Output) → Reads kinds each → kind_over kinds (expr_of each) ≡ Some each.column.kind
 kind_read kinds each reads =
-    ap (λ found. cond (is_kind each.column.kind found) (Some each.column.kind) None) reads ∙ ap (λ same. cond same (Some each.column.kind) None) (same_self each.column.kind)
+    let k = each.column.kind in
+    let within : reads_within kinds (expr_of each) ≡ is_kind k (slice_get kinds each.place) = search rules in
+    let sort : sort_of (expr_of each) ≡ Of k = search rules in
+    ap (λ inside. cond inside (kind_in (sort_of (expr_of each))) None) (within ∙ (ap (is_kind k) reads ∙ same_self k)) ∙ ap kind_in sort
 
 kinds_read : (kinds : List Kind) (outputs : List Output) → AllByRecursion (Reads kinds) outputs → kinds_over kinds (exprs_of outputs) ≡ Some (kinds_of (columns_of outputs))
 kinds_read kinds [] reads = refl

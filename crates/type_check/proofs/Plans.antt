@@ -95,6 +95,10 @@ one_sound : (text : List ℕ) (form : Option Form) (table : Result Dataset Check
 one_sound text form (Err fault) plan f is = absurd (cc is)
 one_sound text form (Ok dataset) plan f is = let same : dataset ∷ [] ≡ plan = cc is in subst IsSoundPlan same (judged_sound text form (Ok dataset) f dataset refl)
 
+-- the plan of one statement
+pub is_one_sound : (text : List ℕ) (form : Option Form) (plan : List Dataset) → IsOne text form (Ok plan) → IsSoundPlan plan
+is_one_sound text form plan f = one_sound text form f.0 plan f.1 f.2
+
 no_plan : IsSoundPlan []
 no_plan = record { names_differ = λ i j d before within. absurd (omega arith); each_dataset = All-nil (λ each. IsSoundBody [] each each.body) }
 

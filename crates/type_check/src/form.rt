@@ -1,6 +1,6 @@
 //! Which statements are of the built form.
 
-ghost use Rattle.std.specs.Prelude.{◌≡◌, ℕ, List, IfOk, map};
+ghost use Rattle.std.specs.Prelude.{◌≡◌, ◌&&◌, IfOk, map};
 ghost use Rattle.std.specs.List.{list_all};
 ghost use Rattle.std.specs.Option.{option_copied};
 ghost use Rattle.row_expr.specs.Typing.{all, kind_of_type};
@@ -117,13 +117,14 @@ fn reads_files(origin: &SqlOrigin) -> bool
 }
 
 fn is_built_with(items: &[SqlItem], select: &Select) -> bool
-    ensures { (name : List ℕ) → result ≡ spec.is_there (spec.form_with name items.now select.now) }
+    ensures { result ≡ (spec.is_plain_select select.now && list_all (λ item. spec.is_there (spec.declared_column item)) items.now && spec.reads_files select.now.origin) }
 {
     is_plain_select(select) && are_columns(items) && reads_files(&select.origin)
 }
 
 /// Whether a statement is of the built form: a streaming table without expectations, with AS over
 /// `read_files`.
+#[tactic(auto, using(crate::proofs::Forms::form_there))]
 pub fn is_built(statement: &Statement) -> bool
     ensures { result ≡ spec.is_there (spec.form_of statement.now) }
 {
