@@ -1,13 +1,12 @@
--- Items that are all columns, and checks in two parts.
+-- Which statements are of the built form.
 use Rattle.std.proofs.Common.{◌≡◌, ℕ, Bool, true, false, ◌&&◌, if◌then◌else◌, List, [], ◌∷◌, ◌++◌, map, Option, Some, None, option_and_then, refl, ap, ◌∙◌}
 use Rattle.std.specs.List.{list_all}
-use Rattle.std.specs.Option.{option_or}
 use Rattle.sql_tree.specs.declared.statement.Select.{Select}
 use Rattle.sql_tree.specs.declared.statement.SqlItem.{SqlItem}
 use Rattle.sql_tree.specs.declared.statement.SqlOrigin.{SqlOrigin}
 use Rattle.sql_tree.specs.declared.statement.SqlOrigin.TheVariants as origin
 use Rattle.value_core.specs.declared.schema.Column.{Column}
-use Rattle.row_expr.specs.Typing.{all, all_from, first_of}
+use Rattle.row_expr.specs.Typing.{all, all_from}
 use Rattle.type_check.specs.Form.{is_there, declared_column, is_plain_select, form_over, form_with, reads_files}
 
 one_there : {A B : Type 0} (make : A → Option B) (so_far : List B) (made : Option B) (more : List A) →
@@ -37,9 +36,3 @@ pub form_there : (name : List ℕ) (items : List SqlItem) (select : Select) →
 form_there name items select =
     with_there (is_plain_select select) (all (map declared_column items)) name select select.origin
     ∙ ap (λ columns. is_plain_select select && columns && reads_files select.origin) (all_there declared_column items)
-
--- the first of two lists is that of the first one, or else that of the second one
-pub first_of_both : {A : Type 0} (front back : List (Option A)) → first_of (front ++ back) ≡ option_or (first_of front) (first_of back)
-first_of_both [] back = refl
-first_of_both (Some a ∷ front) back = refl
-first_of_both (None ∷ front) back = first_of_both front back

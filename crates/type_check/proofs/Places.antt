@@ -1,17 +1,21 @@
 -- An output reads a column of its kind.
-use Rattle.std.proofs.Common.{◌≡◌, ℕ, suc, ◌+◌, ◌<◌, ◌≤◌, Bool, true, cond, List, [], ◌∷◌, ◌++◌, map, flat_map, length, drop, get_or, Option, Some, None, refl, sym, ap, subst, ◌∙◌, length-append, arith, rules}
-use Rattle.std.specs.Prelude.{slice_get, unwrap_or, option_map, option_and_then, option_to_list}
+use Rattle.std.proofs.Common.{◌≡◌, ℕ, ◌+◌, Bool, true, cond, List, [], ◌∷◌, ◌++◌, map, length, Option, Some, None, refl, sym, ap, subst, ◌∙◌, length-append, arith}
+use Rattle.std.specs.Prelude.{slice_get, option_map, option_and_then, option_to_list}
 use Rattle.std.specs.List.{AllByRecursion}
-use Rattle.std.proofs.lemmas.List.{append_assoc, append-nil, drop_more, drop_all}
+use Rattle.std.proofs.lemmas.List.{append_assoc}
 use Rattle.std.proofs.lemmas.Option.{slice_get-map}
 use Rattle.sql_tree.specs.declared.statement.Out.{Out}
 use Rattle.sql_tree.specs.declared.statement.Out.TheVariants as out
 use Rattle.value_core.specs.declared.schema.Column.{Column}
 use Rattle.value_core.specs.declared.value.Kind.{Kind}
 use Rattle.value_core.specs.declared.value.Kind.TheVariants as kind
-use Rattle.row_expr.specs.Columns.{is_kind, reads_within}
+use Rattle.row_expr.specs.declared.expr.Expr.{fold-roll-Expr}
+use Rattle.row_expr.specs.declared.expr.Expr.TheOpen as form
+use Rattle.row_expr.specs.declared.expr.Expr.TheVariants.{rolls-Column}
+use Rattle.row_expr.specs.declared.sort.Sort.{Sort}
+use Rattle.row_expr.specs.Columns.{is_kind, reads_at, arm_reads_at, reads_within}
 use Rattle.row_expr.specs.declared.sort.Sort.TheVariants.{Of}
-use Rattle.row_expr.specs.Kinds.{kind_in, same_kind, sort_of}
+use Rattle.row_expr.specs.Kinds.{arm_at, kind_in, same_kind, sort_at, sort_of}
 use Rattle.plan_core.specs.Sound.{kinds_of, kind_over, kinds_over, all_there}
 use Rattle.type_check.specs.declared.outputs.Output.{Output}
 use Rattle.type_check.specs.Form.{column, plain_name}
@@ -30,8 +34,10 @@ same_self kind.Str = refl
 kind_read : (kinds : List Kind) (each : Output) → Reads kinds each → kind_over kinds (expr_of each) ≡ Some each.column.kind
 kind_read kinds each reads =
     let k = each.column.kind in
-    let within : reads_within kinds (expr_of each) ≡ is_kind k (slice_get kinds each.place) = search rules in
-    let sort : sort_of (expr_of each) ≡ Of k = search rules in
+    let within : reads_within kinds (expr_of each) ≡ is_kind k (slice_get kinds each.place) =
+    ap (reads_within kinds) (sym (rolls-Column each.place k)) ∙ fold-roll-Expr Bool Bool (reads_at kinds) arm_reads_at (form.Column each.place k) in
+    let sort : sort_of (expr_of each) ≡ Of k =
+    ap sort_of (sym (rolls-Column each.place k)) ∙ fold-roll-Expr Sort (Sort × Sort) sort_at arm_at (form.Column each.place k) in
     ap (λ inside. cond inside (kind_in (sort_of (expr_of each))) None) (within ∙ (ap (is_kind k) reads ∙ same_self k)) ∙ ap kind_in sort
 
 kinds_read : (kinds : List Kind) (outputs : List Output) → AllByRecursion (Reads kinds) outputs → kinds_over kinds (exprs_of outputs) ≡ Some (kinds_of (columns_of outputs))
@@ -90,15 +96,3 @@ outs_read source (first ∷ more) = both_read (kinds_of source) (outputs_by sour
 pub outputs_typed : (source : List Column) (outs : List Out) →
     kinds_over (kinds_of source) (exprs_of (outputs_of source outs)) ≡ Some (kinds_of (columns_of (outputs_of source outs)))
 outputs_typed source outs = kinds_read (kinds_of source) (outputs_of source outs) (outs_read source outs)
-
--- ---- `*`, in a loop
-
--- one more of all columns, behind those so far
-pub every_more : (so_far : List Output) (source : List Column) (place : ℕ) (first : Column) → place < length source → first ≡ get_or source place first →
-    (so_far ++ output place first ∷ []) ++ every_from (place + 1) (drop (place + 1) source) ≡ so_far ++ every_from place (drop place source)
-every_more so_far source place first within is =
-    append_assoc so_far (output place first ∷ []) (every_from (place + 1) (drop (place + 1) source))
-    ∙ ap (λ left. so_far ++ every_from place left) (ap (λ x. x ∷ drop (place + 1) source) is ∙ sym (drop_more source place first within))
-
-pub every_done : (so_far : List Output) (source : List Column) (place : ℕ) → length source ≤ place → so_far ++ every_from place (drop place source) ≡ so_far
-every_done so_far source place past = ap (λ left. so_far ++ every_from place left) (drop_all place source past) ∙ append-nil so_far

@@ -1,21 +1,17 @@
 -- The checks give one answer, and sound plans.
-use Rattle.std.proofs.Common.{◌≡◌, ℕ, Bool, true, List, [], ◌∷◌, ◌++◌, Option, Some, None, Result, Ok, Err, All, AllPairs, refl, sym, ap, subst, ◌∙◌, arith}
+use Rattle.std.proofs.Common.{◌≡◌, ℕ, List, [], ◌∷◌, ◌++◌, Option, Some, None, Result, Ok, Err, refl, sym, ap, subst, ◌∙◌, arith}
 use Rattle.std.proofs.lemmas.List.Elements.{All-cons, All-nil}
-use Rattle.sql_tree.specs.declared.expr.SqlExpr.{SqlExpr}
 use Rattle.sql_tree.specs.declared.statement.Out.{Out}
 use Rattle.sql_tree.specs.declared.statement.SqlOption.{SqlOption}
 use Rattle.sql_tree.specs.declared.statement.Statement.{Statement}
-use Rattle.value_core.specs.declared.schema.Column.{Column}
-use Rattle.plan_core.specs.declared.flow.AppendFlow.{AppendFlow}
 use Rattle.plan_core.specs.declared.plan.Dataset.{Dataset}
-use Rattle.plan_core.specs.Sound.{kinds_of, IsSoundAppend, IsSoundFlow, IsSoundTable, IsSoundBody, IsSoundPlan}
+use Rattle.plan_core.specs.Sound.{IsSoundFlow, IsSoundTable, IsSoundBody, IsSoundPlan}
 use Rattle.file_options.specs.declared.files.FilesRead.{FilesRead}
 use Rattle.file_options.specs.Rules.{By, FilesBy}
 use Rattle.type_check.specs.declared.fault.CheckFault.{CheckFault}
-use Rattle.type_check.specs.declared.outputs.Output.{Output}
 use Rattle.type_check.specs.Form.{Form, form_of}
 use Rattle.type_check.specs.Outputs.{outputs_of, columns_of}
-use Rattle.type_check.specs.Rules.{Break, Comes, Checked, Judged, JudgedBehind, IsOne, first_break, declared_checks, select_checks, column_checks, unless, outputs_over, over_outputs, table_by, dataset_over, flow_with, text_of, as_plan}
+use Rattle.type_check.specs.Rules.{Break, Comes, Checked, Judged, JudgedBehind, IsOne, first_break, declared_checks, select_checks, column_checks, unless, over_outputs, table_by, dataset_over, flow_with, text_of, as_plan}
 use Rattle.type_check.proofs.Places.{outputs_typed}
 
 -- ---- one answer
@@ -41,10 +37,6 @@ pub checked_once : OptionsOnce → (statements : List Statement) (one other : Re
 checked_once once statements one other f g = comes_once once statements one other f.comes g.comes
 
 -- ---- a sound plan
-
--- the outputs of these columns
-abbrev Given : List Column → List Out → List Output → Type 0
-Given source outs outputs = outputs ≡ outputs_of source outs
 
 flow_sound : (name text : List ℕ) (files : FilesRead) (outs : List Out) → let outputs = outputs_of files.shape.columns outs in let dataset = dataset_over name text files outputs in
     IsSoundFlow (dataset ∷ []) dataset (flow_with name files outputs)

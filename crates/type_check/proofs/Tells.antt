@@ -1,23 +1,16 @@
 -- What a call tells, by what the calls in it tell.
-use Rattle.std.proofs.Common.{◌≡◌, ℕ, List, [], ◌∷◌, ◌++◌, Option, Some, None, Result, Ok, Err, refl, sym, ap, subst, ◌∙◌}
-use Rattle.std.specs.Option.{option_or}
-use Rattle.sql_tree.specs.declared.expr.SqlExpr.{SqlExpr}
-use Rattle.sql_tree.specs.declared.statement.Out.{Out}
-use Rattle.sql_tree.specs.declared.statement.SqlOption.{SqlOption}
-use Rattle.sql_tree.specs.declared.statement.Statement.{Statement}
+use Rattle.std.proofs.Common.{◌≡◌, ℕ, List, Some, None, Result, Ok, Err, refl, ap, subst, ◌∙◌}
 use Rattle.value_core.specs.declared.schema.Column.{Column}
 use Rattle.plan_core.specs.declared.plan.Dataset.{Dataset}
 use Rattle.file_options.specs.declared.files.FilesRead.{FilesRead}
-use Rattle.file_options.specs.Rules.{By, FilesBy}
+use Rattle.file_options.specs.Rules.{FilesBy}
 use Rattle.type_check.specs.declared.fault.CheckFault.{CheckFault}
 use Rattle.type_check.specs.declared.fault.CheckFault.TheVariants.{BadOption}
 use Rattle.type_check.specs.declared.fault.TableEnd.{TableEnd}
 use Rattle.type_check.specs.declared.fault.TableEnd.TheVariants as end
 use Rattle.type_check.specs.declared.outputs.Output.{Output}
-use Rattle.type_check.specs.Form.{Form, form_of}
-use Rattle.type_check.specs.Outputs.{outputs_of, columns_of}
-use Rattle.type_check.specs.Rules.{Break, Comes, Checked, IsOne, Judged, JudgedBehind, Told, broken_at, column_checks, declared_checks, dataset_over, first_break, outputs_over, over_outputs, select_checks, table_by, text_of, unless}
-use Rattle.type_check.proofs.Forms.{first_of_both}
+use Rattle.type_check.specs.Form.{Form}
+use Rattle.type_check.specs.Rules.{Judged, JudgedBehind, Told, declared_checks, dataset_over, first_break, outputs_over, over_outputs, table_by}
 
 -- ---- a table over what its options say
 

@@ -1,5 +1,5 @@
 -- The columns that outputs give, over the columns that are read.
-use Rattle.std.specs.Prelude.{ℕ, ◌+◌, Bool, false, ◌&&◌, ◌||◌, if◌then◌else◌, List, [], ◌∷◌, ◌++◌, map, flat_map, position, slice_get, Option, Some, None, unwrap_or, option_map, option_and_then, option_to_list}
+use Rattle.std.specs.Prelude.{ℕ, ◌+◌, Bool, ◌&&◌, if◌then◌else◌, List, [], ◌∷◌, ◌++◌, map, flat_map, position, slice_get, Option, Some, None, unwrap_or, option_map, option_and_then, option_to_list}
 use Rattle.sql_tree.specs.declared.statement.Out.{Out}
 use Rattle.sql_tree.specs.declared.statement.Out.TheVariants as out
 use Rattle.value_core.specs.declared.schema.Column.{Column}

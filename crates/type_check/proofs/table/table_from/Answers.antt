@@ -1,4 +1,4 @@
-use Rattle.std.proofs.Common.{◌≡◌, Some, None, Ok, Err, arith, rules}
+use Rattle.std.proofs.Common.{◌≡◌, None, Ok, Err, arith, rules}
 use Rattle.type_check.specs.Form as form
 use Rattle.type_check.specs.Rules as spec
 use Rattle.type_check.proofs.Tells.{judged_told}

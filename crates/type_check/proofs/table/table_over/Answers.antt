@@ -1,4 +1,4 @@
-use Rattle.std.proofs.Common.{◌≡◌, ◌∙◌, ap}
+use Rattle.std.proofs.Common.{◌∙◌, ap}
 use Rattle.type_check.specs.Form as form
 use Rattle.type_check.specs.Rules as spec
 use Rattle.type_check.proofs.Tells.{over_given, over_told}
