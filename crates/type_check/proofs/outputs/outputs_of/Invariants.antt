@@ -1,0 +1,7 @@
+use Rattle.std.proofs.Common.{◌≡◌, take, flat_map}
+use Rattle.type_check.specs.Outputs.{outputs_by}
+use Rattle.type_check.proofs.outputs.outputs_of.Given as goal
+
+-- what the outputs so far give
+abbrev pub invariant-loop-output : goal.invariant-loop-output
+invariant-loop-output l = l.outputs ≡ flat_map (outputs_by l.source) (take l.output-index l.outs)

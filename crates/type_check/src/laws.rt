@@ -1,0 +1,22 @@
+//! Laws of what is checked.
+
+ghost use Rattle.std.specs.Prelude.{◌≡◌, List, Result, Ok};
+ghost use Rattle.sql_tree.specs.declared.statement.Statement.{Statement};
+ghost use Rattle.plan_core.specs.declared.plan.Dataset.{Dataset};
+ghost use Rattle.plan_core.specs.Sound.{IsSoundPlan};
+ghost use Rattle.type_check.specs.Rules.{Break, Checked};
+
+use file_options::options_have_one_answer;
+
+/// A law: the checks give one answer by statements.
+pub fn statements_have_one_answer()
+    ensures { (statements : List Statement) (one other : Result (List Dataset) Break)
+        → Checked statements one → Checked statements other → one ≡ other }
+{
+    options_have_one_answer();
+}
+
+/// A law: a plan that the checks give is sound.
+pub fn checked_plans_are_sound()
+    ensures { (statements : List Statement) (plan : List Dataset) → Checked statements (Ok plan) → IsSoundPlan plan }
+{}

@@ -1,0 +1,17 @@
+//! What a pipeline's statements are checked for, and the plan where no check is broken.
+#![tactic(auto)]
+
+mod checking;
+mod fault;
+mod form;
+mod laws;
+mod names;
+mod outputs;
+mod table;
+
+pub use checking::check;
+pub use fault::{CheckFault, CheckRefusal};
+pub use laws::{checked_plans_are_sound, statements_have_one_answer};
+
+#[cfg(test)]
+mod tests;
