@@ -107,8 +107,10 @@ pub struct FileDisk<'a, R: Files<File = File>> {
 }
 
 impl<'a, R: Files<File = File>> FileDisk<'a, R> {
-    /// A disk of the files at these paths.
-    pub fn new(rt: &'a R, left: &'a str, right: &'a str) -> FileDisk<'a, R> {
+    /// A disk of the files at these paths, which has not failed yet.
+    pub fn new(rt: &'a R, left: &'a str, right: &'a str) -> FileDisk<'a, R>
+        ensures { result.faults.count ≡ 0 }
+    {
         FileDisk {
             rt,
             left: Lazy::new(left),

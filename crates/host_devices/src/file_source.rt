@@ -1,5 +1,5 @@
 // The bytes of a file, from its front.
-ghost use Rattle.std.specs.Prelude.{◌≤◌, length, IfOk};
+ghost use Rattle.std.specs.Prelude.{◌≡◌, ◌≤◌, length, IfOk};
 
 use crate::faults::Faults;
 use disk_model::{Failed, Source};
@@ -18,8 +18,10 @@ pub struct FileSource<'a, R: Files> {
 }
 
 impl<'a, R: Files> FileSource<'a, R> {
-    /// An input from the file at this path, which is opened at the first read.
-    pub fn new(rt: &'a R, path: &'a str) -> FileSource<'a, R> {
+    /// An input from the file at this path, which is opened at the first read. It has not failed yet.
+    pub fn new(rt: &'a R, path: &'a str) -> FileSource<'a, R>
+        ensures { result.faults.count ≡ 0 }
+    {
         FileSource {
             rt,
             path,

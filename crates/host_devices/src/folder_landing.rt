@@ -1,5 +1,5 @@
 // The folders below a root.
-ghost use Rattle.std.specs.Prelude.{IfOk};
+ghost use Rattle.std.specs.Prelude.{◌≡◌, IfOk};
 ghost use Rattle.landing_core.specs.Folders.{listed_names};
 ghost use Rattle.landing_core.specs.Names.{AreAscending};
 
@@ -25,8 +25,10 @@ pub struct FolderLanding<'a, R> {
 }
 
 impl<'a, R> FolderLanding<'a, R> {
-    /// The folders below this one, whose names are paths from it.
-    pub fn new(alloc: Global, rt: &'a R, root: &'a str) -> FolderLanding<'a, R> {
+    /// The folders below this one, whose names are paths from it. They have not failed yet.
+    pub fn new(alloc: Global, rt: &'a R, root: &'a str) -> FolderLanding<'a, R>
+        ensures { result.faults.count ≡ 0 }
+    {
         FolderLanding {
             rt,
             root,

@@ -14,8 +14,10 @@ pub struct PrintSink<'a, R> {
 }
 
 impl<'a, R: Print> PrintSink<'a, R> {
-    /// The standard output.
-    pub fn new(rt: &'a R) -> PrintSink<'a, R> {
+    /// The standard output, which has not failed yet.
+    pub fn new(rt: &'a R) -> PrintSink<'a, R>
+        ensures { result.faults.count ≡ 0 }
+    {
         PrintSink {
             rt,
             faults: Faults::new(),
