@@ -26,6 +26,8 @@ fn is_same_kind(left: Kind, right: Kind) -> bool
     )
 }
 
+/// The one kind of two operands that must be alike. `Any` joins with each kind; two kinds that
+/// differ don't meet.
 pub fn join(left: Sort, right: Sort) -> Sort
     ensures { result ≡ spec.join left right }
 {
@@ -43,6 +45,7 @@ pub fn join(left: Sort, right: Sort) -> Sort
     }
 }
 
+/// The operand's sort where it is INT or BIGINT.
 pub fn number(operand: Sort) -> Sort
     ensures { result ≡ spec.number operand }
 {
@@ -53,6 +56,7 @@ pub fn number(operand: Sort) -> Sort
     }
 }
 
+/// The operand's sort where it is STRING.
 pub fn text(operand: Sort) -> Sort
     ensures { result ≡ spec.text operand }
 {
@@ -82,12 +86,14 @@ pub fn where_formed(operand: Sort, gives: Sort) -> Sort
     }
 }
 
+/// Whether the operand may stand where a condition is asked for: it is BOOLEAN or NULL.
 pub fn is_condition(operand: Sort) -> bool
     ensures { result ≡ spec.is_condition operand }
 {
     matches!(operand, Sort::Of(Kind::Bool) | Sort::Any)
 }
 
+/// The sort of AND and OR: BOOLEAN where both operands are conditions.
 pub fn truth(left: Sort, right: Sort) -> Sort
     ensures { result ≡ spec.truth left right }
 {
@@ -107,6 +113,8 @@ fn widened(operand: Sort) -> Sort
     }
 }
 
+/// The sort of an arithmetic operator over two numbers of one kind. DIV gives BIGINT, each other
+/// operator its operands' kind (Databricks SQL reference, `div` and `%`).
 pub fn calculated(op: Arithmetic, operands: Sort) -> Sort
     ensures { result ≡ spec.calculated op operands }
 {
@@ -116,6 +124,7 @@ pub fn calculated(op: Arithmetic, operands: Sort) -> Sort
     }
 }
 
+/// The sort of a literal: its kind, and `Any` for NULL.
 pub fn sort_of_value(value: &Value) -> Sort
     ensures { result ≡ spec.sort_of_value value.now }
 {
