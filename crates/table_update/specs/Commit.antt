@@ -1,5 +1,5 @@
 -- How a commit of an update ends, and what one commit or more leave of the store.
-use Rattle.std.specs.Prelude.{◌≡◌, ◌⊎◌, ℕ, List, [], ◌∷◌, ◌++◌, Result, Ok, Err}
+use Rattle.std.specs.Prelude.{◌≡◌, ◌⊎◌, ℕ, List, [], ◌∷◌, ◌++◌, Option, Some, Result, Ok, Err}
 use Rattle.disk_model.specs.declared.disk.Side.TheVariants.{Left}
 use Rattle.disk_model.specs.Disk.{DiskState, Alone, Follows}
 use Rattle.disk_model.specs.Moments.{LeavesOnly}
@@ -83,7 +83,7 @@ pub record FlowRan (timed : Type 0) (table : AppendTable) (files : List LandingF
 pub record HasRun (timed : Type 0) (table : AppendTable) (files : List LandingFile) (room at : ℕ) (state : State) (end : UpdateEnd) (store : Store) (old new : DiskState) : Type 0 where
   pub acked : List Payload
   pub tried : List Payload
-  pub ends : LoadedEnds table files room state at acked tried end
+  pub ends : LoadedEnds (Some table) files room state at acked tried end
   pub stores : Stores timed state acked tried old new
   pub left : IsSuccess end → IsLeft store (state_from state tried) (end_after at tried) new
 

@@ -1,5 +1,5 @@
 -- What a crash leaves of the store, during an update and after it.
-use Rattle.std.specs.Prelude.{◌≡◌, ◌≢◌, ◌⊎◌, ℕ, ◌≤◌, ◌^◌, List, ◌++◌, length, Bool, false}
+use Rattle.std.specs.Prelude.{◌≡◌, ◌≢◌, ◌⊎◌, ℕ, ◌≤◌, ◌^◌, List, ◌++◌, length, Bool, false, Option}
 use Rattle.disk_model.specs.declared.disk.Side.TheVariants.{Left}
 use Rattle.disk_model.specs.Disk.{DiskState, Alone, Follows, file}
 use Rattle.disk_model.specs.Moments.{LeavesOnly}
@@ -41,11 +41,11 @@ pub record Leaves (timed : Type 0) (loaded : Bool) (failed : Type 0) (bytes : Li
   pub each : timed → LeavesOnly (λ calls. Alone Left (IsImage ((calls ≡ 0) ⊎ failed) bytes tried)) old new
 
 -- an update: how it ended, which payloads it committed, and what a crash leaves
-pub record Updated (timed : Type 0) (table : AppendTable) (found : Found) (end : UpdateEnd) (old new : DiskState) : Type 0 where
+pub record Updated (timed : Type 0) (plan : Option AppendTable) (found : Found) (end : UpdateEnd) (old new : DiskState) : Type 0 where
   pub loaded : Bool
   pub acked : List Payload
   pub tried : List Payload
-  pub updates : Updates table found loaded acked tried end
+  pub updates : Updates plan found loaded acked tried end
   pub leaves : Leaves timed loaded (end ≡ LoadFailed) found.bytes acked tried old new
   -- a file that could be read isn't longer
   pub small : end ≢ LoadFailed → length found.bytes ≤ 2 ^ 40

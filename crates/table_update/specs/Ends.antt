@@ -1,5 +1,5 @@
 -- Updates that nothing outside stops: what they come to.
-use Rattle.std.specs.Prelude.{◌≡◌, ◌≢◌, ◌⊎◌, ◌↔◌, ℕ, List, [], None}
+use Rattle.std.specs.Prelude.{◌≡◌, ◌≢◌, ◌⊎◌, ◌↔◌, ℕ, List, [], Option, Some, None}
 use Rattle.value_core.specs.declared.cursor.FilePlace.{FilePlace}
 use Rattle.landing_core.specs.declared.landing.LandingFile.{LandingFile}
 use Rattle.store_state.specs.State.{Dataset, State, empty_state, after_payload, definitions_of}
@@ -41,11 +41,17 @@ pub record MayFlow (table : AppendTable) (files : List LandingFile) (room at : �
   pub version : HasNews table files places → HasVersion dataset
   pub room_for : HasNews table files places → HasRoom room at (batch table files places)
 
--- the store loads, its definition is the table's or it has none and there is room for it, no file is shorter than how far it
--- was read, and what is new has room
-pub record NothingRefused (table : AppendTable) (found : Found) : Type 0 where
+-- the store's definition is the table's, or it has none and there is room for it; no file is shorter than how far it was
+-- read; and what is new has room. Without a table the store has no definition.
+abbrev pub MayUpdate : Option AppendTable → Found → State → ℕ → Type 0
+MayUpdate None found state at = state ≡ []
+MayUpdate (Some table) found state at =
+    ((state ≡ []) × HasRoom found.room at (define table) × MayFlow table found.landing found.room (behind at (define table)) (after_payload empty_state (define table)))
+    ⊎ ((definitions_of state ≢ []) × MayFlow table found.landing found.room at state)
+
+-- the store loads, and nothing in it and in the landing files is refused
+pub record NothingRefused (plan : Option AppendTable) (found : Found) : Type 0 where
   pub state : State
   pub at : ℕ
   pub loaded : Loaded found state at
-  pub flows : ((state ≡ []) × HasRoom found.room at (define table) × MayFlow table found.landing found.room (behind at (define table)) (after_payload empty_state (define table)))
-      ⊎ ((definitions_of state ≢ []) × MayFlow table found.landing found.room at state)
+  pub may_update : MayUpdate plan found state at

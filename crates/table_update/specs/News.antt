@@ -15,7 +15,7 @@ use Rattle.table_update.specs.Table.{rows_of}
 -- it is what is new behind these places
 pub record IsNews (table : AppendTable) (files : List LandingFile) (places : List FilePlace) (news : News) : Type 0 where
   pub is_new : HasNews table files places
-  pub rows : news.rows ≡ in_row_order (rows_of table.shape (lines table files places))
+  pub rows : news.rows ≡ in_row_order (rows_of table (lines table files places))
   pub read : news.read ≡ length (lines table files places)
   pub places_now : news.places ≡ reach table files places
 

@@ -1,5 +1,5 @@
 -- What a store of a table stands for: the lines that were ever there, up to how far they were read.
-use Rattle.std.specs.Prelude.{◌≡◌, ◌⊎◌, ℕ, List, [], ◌∷◌}
+use Rattle.std.specs.Prelude.{◌≡◌, ◌⊎◌, ℕ, List, [], ◌∷◌, Option, Some, None}
 use Rattle.disk_model.specs.declared.disk.Side.TheVariants.{Left}
 use Rattle.disk_model.specs.Disk.{TwoFiles, DiskState, file}
 use Rattle.value_core.specs.declared.change.Change.{Change}
@@ -24,7 +24,7 @@ content dataset = rows_after dataset.rows dataset.changes
 
 -- the rows of the complete lines of a table's folder up to these places, from the beginning of each file
 abbrev pub rows_up_to : AppendTable → List LandingFile → List FilePlace → List Row
-rows_up_to table ever places = rows_of table.shape (taken table.shape.format table.shape.header table.folder ever places)
+rows_up_to table ever places = rows_of table (taken table.shape.format table.shape.header table.folder ever places)
 
 -- The table's rows are those of the lines up to how far its flow has read, each place is the end of a complete line, and it
 -- counts no expectations. `ever` is all files that were ever there.
@@ -38,6 +38,11 @@ pub record TableStands (table : AppendTable) (ever : List LandingFile) (state : 
 -- a store that has no dataset yet, or the table as it should stand
 abbrev pub Stands : AppendTable → List LandingFile → State → Type 0
 Stands table ever state = (state ≡ []) ⊎ TableStands table ever state
+
+-- an update is of this table, or of none
+abbrev pub IsFor : Option AppendTable → AppendTable → Type 0
+IsFor None table = Unit {0}
+IsFor (Some other) table = other ≡ table
 
 -- these bytes have a state that stands
 abbrev pub HasStanding : AppendTable → List LandingFile → List ℕ → Type 0

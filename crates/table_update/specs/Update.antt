@@ -89,6 +89,13 @@ JudgeEnds table state (Unfit name) = IsUnfit table state name
 JudgeEnds table state Memory = Unit {0}
 JudgeEnds table state end = ⊥
 
+-- The pipeline has no table: the first stored definition is removed, and where there is none there is nothing to do.
+abbrev pub NoTableEnds : State → UpdateEnd → Type 0
+NoTableEnds state (Removed name) = (first : Definition) × (more : List Definition) × (definitions_of state ≡ first ∷ more) × (name ≡ first.name)
+NoTableEnds state Current = state ≡ []
+NoTableEnds state Memory = Unit {0}
+NoTableEnds state end = ⊥
+
 -- ---- the commits
 
 -- how it ends where the table isn't there and its definition isn't acknowledged
@@ -114,15 +121,16 @@ Runs table files room at state acked tried end =
 
 -- ---- the update
 
--- how it ends once the store is loaded
-abbrev pub LoadedEnds : AppendTable → List LandingFile → ℕ → State → ℕ → List Payload → List Payload → UpdateEnd → Type 0
-LoadedEnds table files room state at acked tried end =
+-- how it ends once the store is loaded, for a pipeline of this table or of none
+abbrev pub LoadedEnds : Option AppendTable → List LandingFile → ℕ → State → ℕ → List Payload → List Payload → UpdateEnd → Type 0
+LoadedEnds None files room state at acked tried end = NoTableEnds state end × (acked ≡ []) × (tried ≡ [])
+LoadedEnds (Some table) files room state at acked tried end =
     (JudgeEnds table state end × (acked ≡ []) × (tried ≡ [])) ⊎ Runs table files room at state acked tried end
 
 -- How an update ends, and whether the store was loaded: which payloads were acknowledged, and which were tried.
-abbrev pub Updates : AppendTable → Found → Bool → List Payload → List Payload → UpdateEnd → Type 0
-Updates table found false acked tried end = LoadEnds found end × (acked ≡ []) × (tried ≡ [])
-Updates table found true acked tried end = (state : State) × (at : ℕ) × Loaded found state at × LoadedEnds table found.landing found.room state at acked tried end
+abbrev pub Updates : Option AppendTable → Found → Bool → List Payload → List Payload → UpdateEnd → Type 0
+Updates plan found false acked tried end = LoadEnds found end × (acked ≡ []) × (tried ≡ [])
+Updates plan found true acked tried end = (state : State) × (at : ℕ) × Loaded found state at × LoadedEnds plan found.landing found.room state at acked tried end
 
 -- it succeeded
 abbrev pub IsSuccess : UpdateEnd → Type 0

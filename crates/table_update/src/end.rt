@@ -50,7 +50,7 @@ pub enum UpdateEnd {
         cursor: u64,
         size: u64,
     },
-    /// There was nothing new.
+    /// There was nothing new, or no table to take it.
     Current,
     /// So many lines were taken, and the table has this version now.
     Completed {

@@ -1,5 +1,5 @@
 // Laws of how an update ends where nothing outside stops it.
-ghost use Rattle.std.specs.Prelude.{◌≡◌, ◌≤◌, ◌^◌, ℕ, Bool, List, length};
+ghost use Rattle.std.specs.Prelude.{◌≡◌, ◌≤◌, ◌^◌, ℕ, Bool, List, length, Option};
 ghost use Rattle.commit_records.specs.declared.payload.Payload.{Payload};
 ghost use Rattle.store_core.specs.Reach.{EndsAt, IsLogEnd};
 ghost use Rattle.table_update.specs.Crash.{HasThem};
@@ -12,15 +12,15 @@ use commit_gate::a_log_has_one_list_of_bodies;
 use store_core::a_file_has_one_state;
 
 /// A law: where no device fails and memory is there, what an update comes to and commits follows from
-/// the table, the store's file, its room and the landing files; two files that a store takes for the
+/// the table if there is one, the store's file, its room and the landing files; two files that a store takes for the
 /// same give the same.
 pub fn an_update_has_one_end()
-    ensures same { (table : AppendTable) (found : Found) (loaded also_loaded : Bool) (acked tried also_acked also_tried : List Payload) (end other : UpdateEnd)
-        → length found.bytes ≤ 2 ^ 40 → Updates table found loaded acked tried end → Updates table found also_loaded also_acked also_tried other → IsOwn end → IsOwn other
+    ensures same { (plan : Option AppendTable) (found : Found) (loaded also_loaded : Bool) (acked tried also_acked also_tried : List Payload) (end other : UpdateEnd)
+        → length found.bytes ≤ 2 ^ 40 → Updates plan found loaded acked tried end → Updates plan found also_loaded also_acked also_tried other → IsOwn end → IsOwn other
         → (end ≡ other) × (tried ≡ also_tried) }
-    ensures alike { (table : AppendTable) (found also : Found) (loaded also_loaded : Bool) (acked tried also_acked also_tried : List Payload) (end other : UpdateEnd)
+    ensures alike { (plan : Option AppendTable) (found also : Found) (loaded also_loaded : Bool) (acked tried also_acked also_tried : List Payload) (end other : UpdateEnd)
         → length found.bytes ≤ 2 ^ 40 → length also.bytes ≤ 2 ^ 40 → Alike found.bytes also.bytes → also.room ≡ found.room → also.landing ≡ found.landing
-        → Updates table found loaded acked tried end → Updates table also also_loaded also_acked also_tried other → IsOwn end → IsOwn other
+        → Updates plan found loaded acked tried end → Updates plan also also_loaded also_acked also_tried other → IsOwn end → IsOwn other
         → (end ≡ other) × (tried ≡ also_tried) }
 {
     a_file_has_one_state();
@@ -29,8 +29,8 @@ pub fn an_update_has_one_end()
 /// A law: the files that two updates leave are taken for the same, where both succeed with the same
 /// payloads from one file or from two that are taken for the same.
 pub fn settled_files_are_alike()
-    ensures same { (table : AppendTable) (found : Found) (loaded : Bool) (acked tried : List Payload) (end : UpdateEnd) (image other : List ℕ)
-        → length found.bytes ≤ 2 ^ 40 → Updates table found loaded acked tried end → IsSuccess end
+    ensures same { (plan : Option AppendTable) (found : Found) (loaded : Bool) (acked tried : List Payload) (end : UpdateEnd) (image other : List ℕ)
+        → length found.bytes ≤ 2 ^ 40 → Updates plan found loaded acked tried end → IsSuccess end
         → HasThem found.bytes tried image → HasThem found.bytes tried other
         → ((at : ℕ) → EndsAt at found.bytes → IsLogEnd (end_after at tried) image) → ((at : ℕ) → EndsAt at found.bytes → IsLogEnd (end_after at tried) other)
         → Alike image other }
@@ -46,8 +46,8 @@ pub fn settled_files_are_alike()
 /// store loads, it has the table or nothing, no file is shorter than how far it was read, and there is
 /// room.
 pub fn an_update_succeeds_where_nothing_is_refused()
-    ensures { (table : AppendTable) (found : Found) (loaded : Bool) (acked tried : List Payload) (end : UpdateEnd)
-        → length found.bytes ≤ 2 ^ 40 → Updates table found loaded acked tried end → IsOwn end → NothingRefused table found → IsSuccess end }
+    ensures { (plan : Option AppendTable) (found : Found) (loaded : Bool) (acked tried : List Payload) (end : UpdateEnd)
+        → length found.bytes ≤ 2 ^ 40 → Updates plan found loaded acked tried end → IsOwn end → NothingRefused plan found → IsSuccess end }
 {
     a_file_has_one_state();
 }

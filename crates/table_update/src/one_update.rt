@@ -1,17 +1,19 @@
 // One update.
 ghost use Rattle.std.specs.Prelude.{◌≡◌, ◌≤◌, IsTrue};
+ghost use Rattle.std.specs.Option.{option_copied};
 ghost use Rattle.disk_model.specs.declared.disk.Side.TheVariants.{Right};
 ghost use Rattle.disk_model.specs.Disk.{IsHonest};
 ghost use Rattle.disk_model.specs.Faults.{Rose};
-ghost use Rattle.line_rows.specs.Lines.{keeps_text};
 ghost use Rattle.commit_gate.specs.AtRest.{LeavesFile};
 ghost use Rattle.landing_core.specs.Folders.{HoldsPresent};
 ghost use Rattle.store_core.specs.Ours.{IsOurs};
 ghost use Rattle.table_update.specs.Crash.{Updated};
-ghost use Rattle.table_update.specs.Stands.{IsStanding};
+ghost use Rattle.table_update.specs.Stands.{IsFor, IsStanding};
+ghost use Rattle.table_update.specs.Table.{is_sound_plan};
 ghost use Rattle.table_update.specs.Update as spec;
 
 use crate::end::UpdateEnd;
+use crate::nothing::nothing;
 use crate::run::run;
 use crate::table::AppendTable;
 use disk_model::Disk;
@@ -32,8 +34,9 @@ fn end_of_load(refusal: StoreRefusal) -> UpdateEnd
     }
 }
 
-/// One update of an append table: loads the store, defines the table where the store has no dataset yet,
-/// and takes in the complete lines of its folder that are new, in one commit.
+/// One update of a pipeline that has this append table, or none: loads the store, defines the table where
+/// the store has no dataset yet, and takes in the complete lines of its folder that are new, in one
+/// commit. Without a table there is nothing new.
 ///
 /// A store that holds another dataset, or this table by another text, is refused and stays as it is. So
 /// does one where the flow stops: a file is shorter than how far it was read, the landing failed, the
@@ -46,19 +49,19 @@ pub fn update<D: Disk, L: Landing>(
     alloc: Global,
     disk: &mut D,
     landing: &mut L,
-    table: &AppendTable,
+    table: Option<&AppendTable>,
 ) -> UpdateEnd
     requires honest { D.tells → IsHonest (D.state disk.old) }
-    // A column that keeps rescued lines is a STRING.
-    requires text { IsTrue (keeps_text table.now.shape) }
+    // A column that keeps rescued lines is a STRING, and the table takes columns that lines have, of their kinds.
+    requires sound { IsTrue (is_sound_plan (option_copied table)) }
 
     // How it ended, which payloads it committed, and what a crash leaves.
-    ensures updated { D.tells → L.tells → Updated D.tells_moments table.now (record { bytes = (D.state disk.old).now.left; room = D.room disk.old; landing = L.present landing.old }) result (D.state disk.old) (D.state disk.new) }
+    ensures updated { D.tells → L.tells → Updated D.tells_moments (option_copied table) (record { bytes = (D.state disk.old).now.left; room = D.room disk.old; landing = L.present landing.old }) result (D.state disk.old) (D.state disk.new) }
     // A store of this kind stays one, whatever a crash leaves.
     ensures ours { D.tells → IsOurs (D.state disk.old) → IsOurs (D.state disk.new) }
 
     // Where whatever a crash leaves of the store stood as it should, so it does after the update.
-    ensures stands { D.tells → L.tells → HoldsPresent (L.present landing.old) (L.ever landing.old) → IsStanding table.now (L.ever landing.old) (D.state disk.old) → IsStanding table.now (L.ever landing.old) (D.state disk.new) }
+    ensures stands { D.tells → L.tells → HoldsPresent (L.present landing.old) (L.ever landing.old) → (kept : AppendTable) → IsFor (option_copied table) kept → IsStanding kept (L.ever landing.old) (D.state disk.old) → IsStanding kept (L.ever landing.old) (D.state disk.new) }
 
     // What an update leaves alone.
     ensures honest { D.tells → IsHonest (D.state disk.new) }
@@ -75,7 +78,10 @@ pub fn update<D: Disk, L: Landing>(
     ensures landing_fault { result ≡ UpdateEnd.LandingFailed → Rose (L.faults landing.old) (L.faults landing.new) }
 {
     match Store::load(alloc, disk) {
-        Ok(mut store) => run(alloc, disk, landing, table, &mut store),
+        Ok(mut store) => match table {
+            Some(table) => run(alloc, disk, landing, table, &mut store),
+            None => nothing(alloc, &store),
+        },
         Err(refusal) => end_of_load(refusal),
     }
 }

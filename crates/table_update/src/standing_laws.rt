@@ -1,5 +1,5 @@
 // Laws of tables that stand for the lines that were ever there.
-ghost use Rattle.std.specs.Prelude.{◌≡◌, ◌≢◌, ◌++◌, ◌≤◌, ◌^◌, ℕ, Bool, List, [], false, length};
+ghost use Rattle.std.specs.Prelude.{◌≡◌, ◌≢◌, ◌++◌, ◌≤◌, ◌^◌, ℕ, Bool, List, [], false, length, Option, Some};
 ghost use Rattle.landing_core.specs.Folders.{HoldsPresent};
 ghost use Rattle.landing_core.specs.declared.landing.LandingFile.{LandingFile};
 ghost use Rattle.landing_history.specs.Taken.{HaveGrown};
@@ -8,23 +8,23 @@ ghost use Rattle.store_state.specs.State.{State, state_from};
 ghost use Rattle.store_core.specs.State.{HasState};
 ghost use Rattle.table_update.specs.Crash.{IsImage, IsSettled};
 ghost use Rattle.table_update.specs.Refresh.{NoneGone, IsFresh};
-ghost use Rattle.table_update.specs.Stands.{Stands, HasStanding, TableStands};
+ghost use Rattle.table_update.specs.Stands.{IsFor, Stands, HasStanding, TableStands};
 ghost use Rattle.table_update.specs.Update.{Found, Updates, IsSuccess};
 ghost use Rattle.table_update.specs.declared.end.UpdateEnd.{UpdateEnd};
 ghost use Rattle.table_update.specs.declared.end.UpdateEnd.TheVariants.{LoadFailed};
 ghost use Rattle.table_update.specs.declared.table.AppendTable.{AppendTable};
 
-/// A law: an update keeps a table standing, with any front of its payloads, whatever a crash leaves of
+/// A law: an update of a table, or of a pipeline without one, keeps the table standing, with any front of its payloads, whatever a crash leaves of
 /// it and at whatever moment. Its premise: files that are there hold all that they ever held.
 pub fn an_update_keeps_a_table_standing()
-    ensures fronts { (table : AppendTable) (found : Found) (loaded : Bool) (acked tried : List Payload) (end : UpdateEnd) (ever : List LandingFile) (state : State) (front behind : List Payload)
-        → Updates table found loaded acked tried end → length found.bytes ≤ 2 ^ 40 → HoldsPresent found.landing ever → HasState found.bytes state → Stands table ever state
+    ensures fronts { (plan : Option AppendTable) (table : AppendTable) (found : Found) (loaded : Bool) (acked tried : List Payload) (end : UpdateEnd) (ever : List LandingFile) (state : State) (front behind : List Payload)
+        → IsFor plan table → Updates plan found loaded acked tried end → length found.bytes ≤ 2 ^ 40 → HoldsPresent found.landing ever → HasState found.bytes state → Stands table ever state
         → tried ≡ front ++ behind → Stands table ever (state_from state front) }
-    ensures images { (table : AppendTable) (found : Found) (loaded : Bool) (acked tried : List Payload) (end : UpdateEnd) (ever : List LandingFile) (was image : List ℕ)
-        → Updates table found loaded acked tried end → (end ≢ LoadFailed → length found.bytes ≤ 2 ^ 40) → HoldsPresent found.landing ever → HasStanding table ever found.bytes
+    ensures images { (plan : Option AppendTable) (table : AppendTable) (found : Found) (loaded : Bool) (acked tried : List Payload) (end : UpdateEnd) (ever : List LandingFile) (was image : List ℕ)
+        → IsFor plan table → Updates plan found loaded acked tried end → (end ≢ LoadFailed → length found.bytes ≤ 2 ^ 40) → HoldsPresent found.landing ever → HasStanding table ever found.bytes
         → HasStanding table ever was → IsSettled (loaded ≡ false) found.bytes acked tried was image → HasStanding table ever image }
-    ensures moments { (table : AppendTable) (found : Found) (loaded : Bool) (acked tried : List Payload) (end : UpdateEnd) (ever : List LandingFile) (was image : List ℕ)
-        → Updates table found loaded acked tried end → (end ≢ LoadFailed → length found.bytes ≤ 2 ^ 40) → HoldsPresent found.landing ever → HasStanding table ever found.bytes
+    ensures moments { (plan : Option AppendTable) (table : AppendTable) (found : Found) (loaded : Bool) (acked tried : List Payload) (end : UpdateEnd) (ever : List LandingFile) (was image : List ℕ)
+        → IsFor plan table → Updates plan found loaded acked tried end → (end ≢ LoadFailed → length found.bytes ≤ 2 ^ 40) → HoldsPresent found.landing ever → HasStanding table ever found.bytes
         → HasStanding table ever was → IsImage (Unit {0}) found.bytes tried was image → HasStanding table ever image }
 {}
 
@@ -42,6 +42,6 @@ pub fn a_new_file_stands()
 /// are those of a full refresh: a table that has read nothing before takes the same from what is there.
 pub fn a_completed_update_is_a_full_refresh()
     ensures { (table : AppendTable) (found : Found) (loaded : Bool) (acked tried : List Payload) (end : UpdateEnd) (ever : List LandingFile) (state : State)
-        → Updates table found loaded acked tried end → length found.bytes ≤ 2 ^ 40 → IsSuccess end → HoldsPresent found.landing ever → HasState found.bytes state → Stands table ever state
+        → Updates (Some table) found loaded acked tried end → length found.bytes ≤ 2 ^ 40 → IsSuccess end → HoldsPresent found.landing ever → HasState found.bytes state → Stands table ever state
         → (stands : TableStands table ever (state_from state tried)) × (NoneGone found.landing stands → IsFresh found.landing stands) }
 {}

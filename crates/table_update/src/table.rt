@@ -5,12 +5,22 @@ ghost use Rattle.table_update.specs.Table as spec;
 
 use commit_records::{Definition, Payload, StoredBody, StoredFlow, StoredOrigin, Take};
 use std::alloc::{AllocError, Global};
-use value_core::{Change, Cursor, FilePlaces, ListOf, Name, Rows, Shape, Text};
+use value_core::{Change, Column, Cursor, FilePlaces, ListOf, Name, Rows, Schema, Shape, Text};
+
+/// A column of a table, and the place among the columns of a line, from 0, of the one that it takes.
+#[derive(Debug, Drop)]
+pub struct Output {
+    pub place: usize,
+    pub column: Column,
+}
+
+/// Outputs in order.
+pub type Outputs = ListOf<Output>;
 
 /// An append table that takes the lines of one landing folder, with a flow of its own name.
 ///
-/// It keeps the columns of `shape`, in their order, and a row a line (Databricks SQL reference, CREATE
-/// STREAMING TABLE and `read_files`).
+/// Each line is a row of the columns of `shape`, of which the table keeps its outputs (Databricks SQL
+/// reference, CREATE STREAMING TABLE and `read_files`).
 #[derive(Debug, Drop)]
 pub struct AppendTable {
     pub name: Name,
@@ -18,10 +28,24 @@ pub struct AppendTable {
     pub text: Text,
     /// The landing folder, below the landing root.
     pub folder: Text,
+    /// How lines are read, and the columns that they have.
     pub shape: Shape,
+    /// The table's columns in order.
+    pub outputs: Outputs,
 }
 
 impl AppendTable {
+    /// The table's columns.
+    fn columns(&self, alloc: Global) -> Result<Schema, AllocError>
+        ensures { IfOk result (λ columns. columns ≡ spec.columns_of self.now.outputs) }
+    {
+        let mut columns = ListOf::new(alloc);
+        for output in self.outputs.as_slice() {
+            columns.push(output.column.copy(alloc)?)?;
+        }
+        Ok(columns)
+    }
+
     /// What a store knows of the table beside its rows.
     fn definition(&self, alloc: Global) -> Result<Definition, AllocError>
         ensures { IfOk result (λ definition. definition ≡ spec.definition_of self.now) }
@@ -35,7 +59,7 @@ impl AppendTable {
             name: self.name.copy(alloc)?,
             text: self.text.copy(alloc)?,
             body: StoredBody::Append,
-            columns: self.shape.columns.copy(alloc)?,
+            columns: self.columns(alloc)?,
             expectations: ListOf::new(alloc),
             flows,
             keys: ListOf::new(alloc),
