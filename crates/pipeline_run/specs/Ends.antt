@@ -1,15 +1,16 @@
 -- How runs end over devices that don't fail.
 use Rattle.std.specs.Prelude.{◌≡◌, ◌⊎◌, ℕ, List, [], ◌∷◌, Option}
 use Rattle.disk_model.specs.Faults.{Rose}
+use Rattle.table_update.specs.declared.table.AppendTable.{AppendTable}
 use Rattle.table_update.specs.Ends as tables
 use Rattle.table_update.specs.Ends.{Alike}
 use Rattle.pipeline_run.specs.declared.command.Command.{Command}
 use Rattle.pipeline_run.specs.declared.command.Command.TheVariants as command
 use Rattle.pipeline_run.specs.declared.outcome.Status.{Status}
 use Rattle.pipeline_run.specs.declared.outcome.Status.TheVariants as status
-use Rattle.pipeline_run.specs.Pipeline.{the_pipeline, HasStatements}
+use Rattle.pipeline_run.specs.Pipeline.{HasPlan}
 use Rattle.pipeline_run.specs.Run.{Around, found_by, Standing, Ran}
-use Rattle.pipeline_run.specs.Table.{the_table}
+use Rattle.pipeline_run.specs.Table.{plan_of}
 use Rattle.pipeline_run.specs.Update.{Ended, tried_by}
 
 -- no device's count of failures rose between these standings
@@ -36,11 +37,12 @@ pub record SameEnd (answer other : Status) (updates others : List Ended) (new al
   pub tried : tried_by updates ≡ tried_by others
   pub files : answer ≡ status.Ok → SameFile new.file also.file
 
--- an update over this file has nothing to refuse: the text is the pipeline that it is built for, the file is a store that
--- has its table or nothing, no listed file is shorter than its place, and there is room
+-- an update over this file has nothing to refuse: the text's statements break no check, the file is a store that has the
+-- pipeline's table or nothing, no listed file is shorter than its place, and there is room
 pub record NothingRefused (around : Around) (file : List ℕ) : Type 0 where
-  pub accepted : HasStatements around.text the_pipeline
-  pub takes : tables.NothingRefused the_table (found_by around file)
+  pub plan : Option AppendTable
+  pub checks : HasPlan around.text (plan_of plan)
+  pub takes : tables.NothingRefused plan (found_by around file)
 
 -- commands that change nothing
 abbrev pub AreValidates : List Command → Type 0

@@ -1,7 +1,9 @@
 pub mod Command
 pub mod Crash
 pub mod Ends
+pub mod Escape
 pub mod Pipeline
+pub mod PlanLines
 pub mod Report
 pub mod Run
 pub mod Table

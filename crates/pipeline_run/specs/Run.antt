@@ -2,19 +2,20 @@
 use Rattle.std.specs.Prelude.{◌≡◌, ◌≢◌, ◌⊎◌, ℕ, ◌≤◌, List, [], ◌∷◌, ◌++◌, take, Option, Some, None}
 use Rattle.disk_model.specs.Faults.{Rose}
 use Rattle.landing_core.specs.declared.landing.LandingFile.{LandingFile}
-use Rattle.sql_tree.specs.declared.statement.Statement.{Statement}
 use Rattle.pipeline_sql.specs.Read.{IsRefused}
 use Rattle.table_update.specs.Update.{Found}
 use Rattle.table_update.specs.declared.end.UpdateEnd.{UpdateEnd}
 use Rattle.table_update.specs.declared.end.UpdateEnd.TheVariants.{LoadFailed, CommitFailed, LandingFailed}
+use Rattle.table_update.specs.declared.table.AppendTable.{AppendTable}
 use Rattle.pipeline_run.specs.declared.command.Command.{Command}
 use Rattle.pipeline_run.specs.declared.command.Command.TheVariants as command
 use Rattle.pipeline_run.specs.declared.outcome.Outcome.{Outcome}
-use Rattle.pipeline_run.specs.declared.outcome.Outcome.TheVariants.{Usage, TextFailed, Refused, NotSupported, Valid, Updated}
+use Rattle.pipeline_run.specs.declared.outcome.Outcome.TheVariants.{Usage, TextFailed, Refused, Broken, Valid, Updated}
 use Rattle.pipeline_run.specs.declared.outcome.Status.{Status}
 use Rattle.pipeline_run.specs.declared.outcome.Status.TheVariants as status
-use Rattle.pipeline_run.specs.Pipeline.{the_pipeline, text_limit, HasStatements}
+use Rattle.pipeline_run.specs.Pipeline.{text_limit, HasPlan, IsBroken}
 use Rattle.pipeline_run.specs.Report.{printed, status_of}
+use Rattle.pipeline_run.specs.Table.{name_of, plan_of}
 use Rattle.pipeline_run.specs.Update.{Ended, EndsWith}
 
 -- what stays as it is during a run: what the source of the text has left when it begins, how long the store's file may
@@ -75,21 +76,25 @@ found_by around file = record { bytes = file; room = around.room; landing = arou
 abbrev pub IsIdle : List Ended → List ℕ → List ℕ → Type 0
 IsIdle updates before after = (updates ≡ []) × (after ≡ before)
 
--- there was one update, which ended so
-abbrev pub IsUpdate : Around → UpdateEnd → List Ended → List ℕ → List ℕ → Type 0
-IsUpdate around end updates before after = (ended : Ended) × (updates ≡ ended ∷ []) × (ended.end ≡ end) × EndsWith (found_by around before) ended after
+-- there was one update of a pipeline of this table, or of none, which ended so
+abbrev pub IsUpdate : Option AppendTable → Around → UpdateEnd → List Ended → List ℕ → List ℕ → Type 0
+IsUpdate plan around end updates before after = (ended : Ended) × (updates ≡ ended ∷ []) × (ended.end ≡ end) × EndsWith plan (found_by around before) ended after
+
+-- an update of what the text asks for
+abbrev pub IsUpdateOf : Option (List ℕ) → Around → UpdateEnd → List Ended → List ℕ → List ℕ → Type 0
+IsUpdateOf name around end updates before after =
+    (plan : Option AppendTable) × HasPlan around.text (plan_of plan) × (name ≡ name_of plan) × IsUpdate plan around end updates before after
 
 -- When a command comes to an outcome, which updates it had, and the bytes of the store's file before and after it. Each
--- command needs the text. One whose text couldn't be read, or is refused, or isn't what the command is built for, leaves
--- the file as it was.
+-- command needs the text. One whose text couldn't be read, or is refused, or has a statement that breaks a check, leaves the
+-- file as it was.
 abbrev pub Comes : Command → Around → Outcome → List Ended → List ℕ → List ℕ → Type 0
 Comes command around TextFailed updates before after = IsIdle updates before after
 Comes command around (Refused refusal) updates before after = IsRefused (take text_limit around.text) refusal × IsIdle updates before after
-Comes command.Validate around Valid updates before after = ((statements : List Statement) × HasStatements around.text statements) × IsIdle updates before after
+Comes command around (Broken statement fault) updates before after = IsBroken around.text statement fault × IsIdle updates before after
+Comes command.Validate around (Valid plan) updates before after = HasPlan around.text plan × IsIdle updates before after
 Comes command.Validate around outcome updates before after = ⊥
-Comes command.Update around NotSupported updates before after =
-    ((statements : List Statement) × HasStatements around.text statements × (statements ≢ the_pipeline)) × IsIdle updates before after
-Comes command.Update around (Updated end) updates before after = HasStatements around.text the_pipeline × IsUpdate around end updates before after
+Comes command.Update around (Updated name end) updates before after = IsUpdateOf name around end updates before after
 Comes command.Update around outcome updates before after = ⊥
 
 -- an end of an update that blames a device comes only where that device's count rose
@@ -102,7 +107,7 @@ BlamesOf before now _ = Unit {0}
 -- and so does an outcome
 abbrev pub Blames : Counts → Counts → Outcome → Type 0
 Blames before now TextFailed = Rose before.text now.text
-Blames before now (Updated end) = BlamesOf before now end
+Blames before now (Updated name end) = BlamesOf before now end
 Blames before now _ = Unit {0}
 
 -- a command came to this outcome

@@ -1,21 +1,51 @@
--- The table that an update keeps.
-use Rattle.std.specs.Prelude.{ℕ, List, [], ◌∷◌, false, codes}
-use Rattle.value_core.specs.declared.cursor.Format.TheVariants.{Json}
-use Rattle.value_core.specs.declared.schema.Column.{Column}
-use Rattle.value_core.specs.declared.shape.Shape.{Shape}
-use Rattle.value_core.specs.declared.value.Kind.TheVariants.{Big}
-use Rattle.pipeline_sql.specs.Read.{print_text}
+-- The table of a plan.
+use Rattle.std.specs.Prelude.{◌≡◌, ℕ, List, [], ◌∷◌, map, Option, Some, None, option_map, Ok}
+use Rattle.row_expr.specs.declared.expr.Expr.{Expr}
+use Rattle.row_expr.specs.declared.expr.Expr.TheVariants as expr
+use Rattle.plan_core.specs.declared.flow.AppendFlow.{AppendFlow}
+use Rattle.plan_core.specs.declared.flow.Origin.TheVariants.{Files}
+use Rattle.plan_core.specs.declared.plan.Body.TheVariants.{Append}
+use Rattle.plan_core.specs.declared.plan.Dataset.{Dataset}
+use Rattle.sql_tree.specs.declared.statement.Statement.{Statement}
+use Rattle.type_check.specs.Rules.{Checked}
 use Rattle.table_update.specs.declared.table.AppendTable.{AppendTable}
-use Rattle.pipeline_run.specs.Pipeline.{folder, the_pipeline}
+use Rattle.table_update.specs.declared.table.Output.{Output}
+use Rattle.table_update.specs.Stands.{IsFor}
+use Rattle.table_update.specs.Table.{columns_of}
+use Rattle.pipeline_run.specs.Pipeline.{HasPlan}
 
--- a BIGINT
-abbrev pub the_columns : List Column
-the_columns = record { name = codes "a"; kind = Big } ∷ []
+-- a column that is read, by its place and kind
+abbrev pub expr_of : Output → Expr
+expr_of output = expr.Column output.place output.column.kind
 
--- lines of JSON, with no column for what is left over. Only CSV has a header and a separator, which is a comma.
-abbrev pub the_shape : Shape
-the_shape = record { format = Json; columns = the_columns; rescued = false; header = false; sep = 44 }
+-- a table's one flow, of its own name
+abbrev pub flow_of : AppendTable → AppendFlow
+flow_of table = record { name = table.name; origin = Files table.folder table.shape; filter = None; outputs = map expr_of table.outputs }
 
--- the table of the one statement, which is known again by its canonical print
-unfoldable pub the_table : AppendTable
-the_table = record { name = codes "t"; text = print_text the_pipeline; folder = folder; shape = the_shape }
+-- a table as a dataset
+abbrev pub dataset_of : AppendTable → Dataset
+dataset_of table = record {
+  name = table.name;
+  text = table.text;
+  body = Append (flow_of table ∷ []);
+  columns = columns_of table.outputs;
+  expectations = [];
+  level = 0;
+}
+
+-- the plan of a pipeline that has this table, or none
+abbrev pub plan_of : Option AppendTable → List Dataset
+plan_of None = []
+plan_of (Some table) = dataset_of table ∷ []
+
+-- the table's name
+abbrev pub name_of : Option AppendTable → Option (List ℕ)
+name_of plan = option_map (λ table. table.name) plan
+
+-- statements ask for this table, or for none
+abbrev pub AskFor : List Statement → AppendTable → Type 0
+AskFor statements table = (asked : Option AppendTable) → Checked statements (Ok (plan_of asked)) → IsFor asked table
+
+-- and so does a text
+abbrev pub AsksFor : List ℕ → AppendTable → Type 0
+AsksFor text table = (asked : Option AppendTable) → HasPlan text (plan_of asked) → IsFor asked table

@@ -1,12 +1,12 @@
--- Updates of the table, one after another.
-use Rattle.std.specs.Prelude.{◌≡◌, ◌≢◌, ℕ, ◌≤◌, ◌^◌, List, [], ◌∷◌, ◌++◌, length, Bool, false}
+-- Updates of one pipeline, one after another.
+use Rattle.std.specs.Prelude.{◌≡◌, ◌≢◌, ℕ, ◌≤◌, ◌^◌, List, [], ◌∷◌, ◌++◌, length, Bool, false, Option}
 use Rattle.commit_records.specs.declared.payload.Payload.{Payload}
 use Rattle.store_core.specs.Reach.{EndsAt, IsLogEnd}
 use Rattle.table_update.specs.declared.end.UpdateEnd.{UpdateEnd}
 use Rattle.table_update.specs.declared.end.UpdateEnd.TheVariants.{LoadFailed}
+use Rattle.table_update.specs.declared.table.AppendTable.{AppendTable}
 use Rattle.table_update.specs.Crash.{HasThem}
 use Rattle.table_update.specs.Update.{Found, Updates, IsSuccess, end_after}
-use Rattle.pipeline_run.specs.Table.{the_table}
 
 -- an update that has ended: whether the store was loaded, and which payloads were acknowledged and which were tried
 pub record Ended : Type 0 where
@@ -15,9 +15,9 @@ pub record Ended : Type 0 where
   pub tried : List Payload
   pub end : UpdateEnd
 
--- It ended so with what it found, and these are the bytes of the store's file then.
-pub record EndsWith (found : Found) (ended : Ended) (after : List ℕ) : Type 0 where
-  pub updates : Updates the_table found ended.loaded ended.acked ended.tried ended.end
+-- It ended so for a pipeline of this table, or of none, with what it found, and these are the bytes of the store's file then.
+pub record EndsWith (plan : Option AppendTable) (found : Found) (ended : Ended) (after : List ℕ) : Type 0 where
+  pub updates : Updates plan found ended.loaded ended.acked ended.tried ended.end
   -- a file that could be read isn't longer
   pub small : ended.end ≢ LoadFailed → length found.bytes ≤ 2 ^ 40
   -- the file of an update that succeeded: it has all payloads, and the next record goes behind theirs

@@ -1,11 +1,14 @@
-ghost use Rattle.std.specs.Prelude.{◌≡◌, ℕ, List, Option, Some};
-ghost use Rattle.sql_tree.specs.declared.statement.Statement.{Statement};
+ghost use Rattle.std.specs.Prelude.{◌≡◌, ℕ, List, [], Option, Some, IsTrue};
+ghost use Rattle.plan_core.specs.declared.plan.Dataset.{Dataset};
+ghost use Rattle.table_update.specs.declared.table.AppendTable.{AppendTable};
+ghost use Rattle.table_update.specs.Table.{is_sound_plan};
 ghost use Rattle.pipeline_run.specs.declared.command.Command.{Command};
 ghost use Rattle.pipeline_run.specs.declared.outcome.Status.{Status};
 ghost use Rattle.pipeline_run.specs.declared.outcome.Status.TheVariants as status;
 ghost use Rattle.pipeline_run.specs.Ends.{RanWell, SameEnd, NothingRefused, AreValidates, HaveOneUpdate};
-ghost use Rattle.pipeline_run.specs.Pipeline.{HasStatements};
+ghost use Rattle.pipeline_run.specs.Pipeline.{HasPlan};
 ghost use Rattle.pipeline_run.specs.Run.{Around, Standing};
+ghost use Rattle.pipeline_run.specs.Table.{AsksFor, plan_of};
 ghost use Rattle.pipeline_run.specs.Update.{Ended};
 
 use pipeline_sql::a_text_has_one_answer;
@@ -13,6 +16,7 @@ use table_update::{
     an_update_has_one_end, an_update_succeeds_where_nothing_is_refused as an_update_succeeds,
     settled_files_are_alike,
 };
+use type_check::{checked_plans_are_sound, checked_tables_keep_text, statements_have_one_answer};
 
 /// A law: where no device fails and memory is there, what a run answers, commits and prints follows from the words, the
 /// text, the landing files, the store's file and its room.
@@ -20,23 +24,44 @@ pub fn a_run_has_one_end()
     ensures { (asked : Option (List Command)) (around : Around) (answer other : Status) (updates others : List Ended) (old new also : Standing) → RanWell asked around answer updates old new → RanWell asked around other others old also → SameEnd answer other updates others new also }
 {
     a_text_has_one_answer();
+    statements_have_one_answer();
     an_update_has_one_end();
     settled_files_are_alike();
 }
 
 /// A law: where no device fails and memory is there, commands succeed that have nothing to refuse. They have one update,
-/// which finds the pipeline that it is built for, a store of its table or an empty one, no file shorter than its place,
+/// which finds statements that break no check, a store of their table or an empty one, no file shorter than its place,
 /// and room.
 pub fn an_update_succeeds_where_nothing_is_refused()
     ensures { (commands : List Command) (around : Around) (answer : Status) (updates : List Ended) (old new : Standing) → HaveOneUpdate commands → RanWell (Some commands) around answer updates old new → NothingRefused around old.file → answer ≡ status.Ok }
 {
     a_text_has_one_answer();
+    statements_have_one_answer();
     an_update_succeeds();
 }
 
-/// A law: where no device fails and memory is there, `validate` succeeds on each text that reads.
-pub fn validates_succeed_where_the_text_reads()
-    ensures { (commands : List Command) (around : Around) (answer : Status) (updates : List Ended) (old new : Standing) (statements : List Statement) → AreValidates commands → RanWell (Some commands) around answer updates old new → HasStatements around.text statements → answer ≡ status.Ok }
+/// A law: where no device fails and memory is there, `validate` succeeds where the text's statements break no check.
+pub fn validates_succeed_where_no_check_is_broken()
+    ensures { (commands : List Command) (around : Around) (answer : Status) (updates : List Ended) (old new : Standing) (plan : List Dataset) → AreValidates commands → RanWell (Some commands) around answer updates old new → HasPlan around.text plan → answer ≡ status.Ok }
 {
     a_text_has_one_answer();
+    statements_have_one_answer();
+}
+
+/// A law: a text asks for one table or for none.
+pub fn a_text_asks_for_one_table()
+    ensures one { (text : List ℕ) (asked other : Option AppendTable) → HasPlan text (plan_of asked) → HasPlan text (plan_of other) → asked ≡ other }
+    ensures table { (text : List ℕ) (table : AppendTable) → HasPlan text (plan_of (Some table)) → AsksFor text table }
+    ensures none { (text : List ℕ) (table : AppendTable) → HasPlan text [] → AsksFor text table }
+{
+    a_text_has_one_answer();
+    statements_have_one_answer();
+}
+
+/// A law: each plan that the checks give is that of a table, or of none.
+pub fn each_plan_is_updated()
+    ensures { (text : List ℕ) (plan : List Dataset) → HasPlan text plan → (asked : Option AppendTable) × (plan ≡ plan_of asked) × IsTrue (is_sound_plan asked) }
+{
+    checked_plans_are_sound();
+    checked_tables_keep_text();
 }

@@ -60,7 +60,7 @@ fn outcome_by<D: Disk, L: Landing>(
     ensures comes { D.tells → L.tells → (text : List ℕ) → HasStatements text statements.now → IfOk result (λ outcome. HasOutcome D.tells_moments command (record { text = text; room = D.room disk.old; landing = L.present landing.old }) outcome (D.state disk.old) (D.state disk.new)) }
     ensures err { OnErr result (disk.new ≡ disk.old) }
     ensures ours { D.tells → IsOurs (D.state disk.old) → IsOurs (D.state disk.new) }
-    ensures stands { D.tells → L.tells → HoldsPresent (L.present landing.old) (L.ever landing.old) → IsStanding the_table (L.ever landing.old) (D.state disk.old) → IsStanding the_table (L.ever landing.old) (D.state disk.new) }
+    ensures stands { D.tells → L.tells → (kept : AppendTable) → AskFor statements.now kept → HoldsPresent (L.present landing.old) (L.ever landing.old) → IsStanding kept (L.ever landing.old) (D.state disk.old) → IsStanding kept (L.ever landing.old) (D.state disk.new) }
     ensures honest { D.tells → IsHonest (D.state disk.new) }
     ensures kept { D.tells → LeavesFile Right (D.state disk.old) (D.state disk.new) }
     ensures room { D.room disk.new ≡ D.room disk.old }
@@ -101,7 +101,7 @@ fn outcome_of<T: Source, D: Disk, L: Landing>(
     ensures amount { T.tells → (whole : List ℕ) → Knows whole known.old (T.left text.old) → length whole ≤ length (T.left text.old) + text_limit → length whole ≤ length (T.left text.new) + text_limit }
     ensures err { OnErr result (disk.new ≡ disk.old) }
     ensures ours { D.tells → IsOurs (D.state disk.old) → IsOurs (D.state disk.new) }
-    ensures stands { D.tells → L.tells → HoldsPresent (L.present landing.old) (L.ever landing.old) → IsStanding the_table (L.ever landing.old) (D.state disk.old) → IsStanding the_table (L.ever landing.old) (D.state disk.new) }
+    ensures stands { T.tells → D.tells → L.tells → (whole : List ℕ) → Knows whole known.old (T.left text.old) → (kept : AppendTable) → AsksFor whole kept → HoldsPresent (L.present landing.old) (L.ever landing.old) → IsStanding kept (L.ever landing.old) (D.state disk.old) → IsStanding kept (L.ever landing.old) (D.state disk.new) }
     ensures honest { D.tells → IsHonest (D.state disk.new) }
     ensures kept { D.tells → LeavesFile Right (D.state disk.old) (D.state disk.new) }
     ensures room { D.room disk.new ≡ D.room disk.old }
@@ -146,7 +146,7 @@ fn execute<T: Source, D: Disk, L: Landing, S: Sink>(
     ensures knows { T.tells → (whole : List ℕ) → Knows whole known.old (T.left text.old) → result ≡ Status.Ok → Knows whole known.new (T.left text.new) }
     ensures amount { T.tells → (whole : List ℕ) → Knows whole known.old (T.left text.old) → length whole ≤ length (T.left text.old) + text_limit → length whole ≤ length (T.left text.new) + text_limit }
     ensures ours { D.tells → IsOurs (D.state disk.old) → IsOurs (D.state disk.new) }
-    ensures stands { D.tells → L.tells → HoldsPresent (L.present landing.old) (L.ever landing.old) → IsStanding the_table (L.ever landing.old) (D.state disk.old) → IsStanding the_table (L.ever landing.old) (D.state disk.new) }
+    ensures stands { T.tells → D.tells → L.tells → (whole : List ℕ) → Knows whole known.old (T.left text.old) → (kept : AppendTable) → AsksFor whole kept → HoldsPresent (L.present landing.old) (L.ever landing.old) → IsStanding kept (L.ever landing.old) (D.state disk.old) → IsStanding kept (L.ever landing.old) (D.state disk.new) }
     ensures honest { D.tells → IsHonest (D.state disk.new) }
     ensures kept { D.tells → LeavesFile Right (D.state disk.old) (D.state disk.new) }
     ensures room { D.room disk.new ≡ D.room disk.old }
@@ -181,7 +181,7 @@ fn execute_all<T: Source, D: Disk, L: Landing, S: Sink>(
         (record { file = (D.state disk.new).now.left; printed = S.written out.new; faults = record { text = T.faults text.new; disk = D.faults disk.new; landing = L.faults landing.new; sink = S.faults out.new } })
         (D.state disk.old) (D.state disk.new) }
     ensures ours { D.tells → IsOurs (D.state disk.old) → IsOurs (D.state disk.new) }
-    ensures stands { D.tells → L.tells → HoldsPresent (L.present landing.old) (L.ever landing.old) → IsStanding the_table (L.ever landing.old) (D.state disk.old) → IsStanding the_table (L.ever landing.old) (D.state disk.new) }
+    ensures stands { T.tells → D.tells → L.tells → (kept : AppendTable) → AsksFor (T.left text.old) kept → HoldsPresent (L.present landing.old) (L.ever landing.old) → IsStanding kept (L.ever landing.old) (D.state disk.old) → IsStanding kept (L.ever landing.old) (D.state disk.new) }
     ensures honest { D.tells → IsHonest (D.state disk.new) }
     ensures kept { D.tells → LeavesFile Right (D.state disk.old) (D.state disk.new) }
     ensures present { L.tells → L.present landing.new ≡ L.present landing.old }
@@ -206,15 +206,15 @@ fn execute_all<T: Source, D: Disk, L: Landing, S: Sink>(
 ///
 /// The words are three paths that aren't empty (the pipeline's text, the store, the landing root), of which the
 /// devices are the caller's, and then one or more commands with the word `then` between two of them. `validate`
-/// prints nothing where the text reads. `update` takes what is new in the folder into the store; it is built for one
-/// statement, `CREATE OR REFRESH STREAMING TABLE t AS SELECT a FROM STREAM read_files('in', format => 'json', schema
-/// => 'a BIGINT')`, however it is spelled (Databricks SQL reference, CREATE STREAMING TABLE).
+/// prints a line a dataset: its name, its level and its columns. `update` takes what is new in the folder into the
+/// store. A pipeline is built that has no statement or one, a streaming table whose AS selects `*` or plain columns from
+/// `read_files` (Databricks SQL reference, CREATE STREAMING TABLE and `read_files`).
 ///
 /// All words are judged first: where they are of no form the answer is Usage. Commands run in order, and the first
 /// answer other than Ok ends the run. The text is read once, by the first command, and not past the byte with which
-/// it is too long. A text that can't be read is answered by Text, one that has no reading or not the one that an
-/// update is built for by Pipeline, a store's file that is none or has no room by Store, a landing file that became
-/// shorter or a landing that failed by Stopped. Disk and Sink say that the store's file or the output failed, Memory
+/// it is too long. A text that can't be read is answered by Text, one that has no reading or breaks a check by Pipeline,
+/// a store's file that is none, has another dataset or has no room by Store, a landing file that became shorter or a
+/// landing that failed by Stopped. Disk and Sink say that the store's file or the output failed, Memory
 /// that memory ran out.
 pub fn run<D: Disk, L: Landing, T: Source, S: Sink>(
     alloc: Global,
@@ -232,9 +232,12 @@ pub fn run<D: Disk, L: Landing, T: Source, S: Sink>(
         (record { file = (D.state disk.new).now.left; printed = S.written out.new; faults = record { text = T.faults text.new; disk = D.faults disk.new; landing = L.faults landing.new; sink = S.faults out.new } })
         (D.state disk.old) (D.state disk.new) }
 
+    // Where whatever a crash leaves of the store stood for the table that the text asks for, so it does after the run; where
+    // the text asks for none, for any table.
+    ensures stands { T.tells → D.tells → L.tells → (kept : AppendTable) → AsksFor (T.left text.old) kept → HoldsPresent (L.present landing.old) (L.ever landing.old) → IsStanding kept (L.ever landing.old) (D.state disk.old) → IsStanding kept (L.ever landing.old) (D.state disk.new) }
+
     // What a run leaves alone, and how much it reads.
     ensures ours { D.tells → IsOurs (D.state disk.old) → IsOurs (D.state disk.new) }
-    ensures stands { D.tells → L.tells → HoldsPresent (L.present landing.old) (L.ever landing.old) → IsStanding the_table (L.ever landing.old) (D.state disk.old) → IsStanding the_table (L.ever landing.old) (D.state disk.new) }
     ensures honest { D.tells → IsHonest (D.state disk.new) }
     ensures kept { D.tells → LeavesFile Right (D.state disk.old) (D.state disk.new) }
     ensures present { L.tells → L.present landing.new ≡ L.present landing.old }
