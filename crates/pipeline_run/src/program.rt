@@ -60,7 +60,7 @@ fn outcome_by<D: Disk, L: Landing>(
     ensures comes { D.tells → L.tells → (text : List ℕ) → HasStatements text statements.now → IfOk result (λ outcome. HasOutcome D.tells_moments command (record { text = text; room = D.room disk.old; landing = L.present landing.old }) outcome (D.state disk.old) (D.state disk.new)) }
     ensures err { OnErr result (disk.new ≡ disk.old) }
     ensures ours { D.tells → IsOurs (D.state disk.old) → IsOurs (D.state disk.new) }
-    ensures stands { D.tells → L.tells → (kept : AppendTable) → AskFor statements.now kept → HoldsPresent (L.present landing.old) (L.ever landing.old) → IsStanding kept (L.ever landing.old) (D.state disk.old) → IsStanding kept (L.ever landing.old) (D.state disk.new) }
+    ensures stands { D.tells → L.tells → (asked : AppendTable) → AskFor statements.now asked → HoldsPresent (L.present landing.old) (L.ever landing.old) → IsStanding asked (L.ever landing.old) (D.state disk.old) → IsStanding asked (L.ever landing.old) (D.state disk.new) }
     ensures honest { D.tells → IsHonest (D.state disk.new) }
     ensures kept { D.tells → LeavesFile Right (D.state disk.old) (D.state disk.new) }
     ensures room { D.room disk.new ≡ D.room disk.old }
@@ -101,7 +101,7 @@ fn outcome_of<T: Source, D: Disk, L: Landing>(
     ensures amount { T.tells → (whole : List ℕ) → Knows whole known.old (T.left text.old) → length whole ≤ length (T.left text.old) + text_limit → length whole ≤ length (T.left text.new) + text_limit }
     ensures err { OnErr result (disk.new ≡ disk.old) }
     ensures ours { D.tells → IsOurs (D.state disk.old) → IsOurs (D.state disk.new) }
-    ensures stands { T.tells → D.tells → L.tells → (whole : List ℕ) → Knows whole known.old (T.left text.old) → (kept : AppendTable) → AsksFor whole kept → HoldsPresent (L.present landing.old) (L.ever landing.old) → IsStanding kept (L.ever landing.old) (D.state disk.old) → IsStanding kept (L.ever landing.old) (D.state disk.new) }
+    ensures stands { T.tells → D.tells → L.tells → (whole : List ℕ) → Knows whole known.old (T.left text.old) → (asked : AppendTable) → AsksFor whole asked → HoldsPresent (L.present landing.old) (L.ever landing.old) → IsStanding asked (L.ever landing.old) (D.state disk.old) → IsStanding asked (L.ever landing.old) (D.state disk.new) }
     ensures honest { D.tells → IsHonest (D.state disk.new) }
     ensures kept { D.tells → LeavesFile Right (D.state disk.old) (D.state disk.new) }
     ensures room { D.room disk.new ≡ D.room disk.old }
@@ -146,7 +146,7 @@ fn execute<T: Source, D: Disk, L: Landing, S: Sink>(
     ensures knows { T.tells → (whole : List ℕ) → Knows whole known.old (T.left text.old) → result ≡ Status.Ok → Knows whole known.new (T.left text.new) }
     ensures amount { T.tells → (whole : List ℕ) → Knows whole known.old (T.left text.old) → length whole ≤ length (T.left text.old) + text_limit → length whole ≤ length (T.left text.new) + text_limit }
     ensures ours { D.tells → IsOurs (D.state disk.old) → IsOurs (D.state disk.new) }
-    ensures stands { T.tells → D.tells → L.tells → (whole : List ℕ) → Knows whole known.old (T.left text.old) → (kept : AppendTable) → AsksFor whole kept → HoldsPresent (L.present landing.old) (L.ever landing.old) → IsStanding kept (L.ever landing.old) (D.state disk.old) → IsStanding kept (L.ever landing.old) (D.state disk.new) }
+    ensures stands { T.tells → D.tells → L.tells → (whole : List ℕ) → Knows whole known.old (T.left text.old) → (asked : AppendTable) → AsksFor whole asked → HoldsPresent (L.present landing.old) (L.ever landing.old) → IsStanding asked (L.ever landing.old) (D.state disk.old) → IsStanding asked (L.ever landing.old) (D.state disk.new) }
     ensures honest { D.tells → IsHonest (D.state disk.new) }
     ensures kept { D.tells → LeavesFile Right (D.state disk.old) (D.state disk.new) }
     ensures room { D.room disk.new ≡ D.room disk.old }
@@ -181,7 +181,7 @@ fn execute_all<T: Source, D: Disk, L: Landing, S: Sink>(
         (record { file = (D.state disk.new).now.left; printed = S.written out.new; faults = record { text = T.faults text.new; disk = D.faults disk.new; landing = L.faults landing.new; sink = S.faults out.new } })
         (D.state disk.old) (D.state disk.new) }
     ensures ours { D.tells → IsOurs (D.state disk.old) → IsOurs (D.state disk.new) }
-    ensures stands { T.tells → D.tells → L.tells → (kept : AppendTable) → AsksFor (T.left text.old) kept → HoldsPresent (L.present landing.old) (L.ever landing.old) → IsStanding kept (L.ever landing.old) (D.state disk.old) → IsStanding kept (L.ever landing.old) (D.state disk.new) }
+    ensures stands { T.tells → D.tells → L.tells → (asked : AppendTable) → AsksFor (T.left text.old) asked → HoldsPresent (L.present landing.old) (L.ever landing.old) → IsStanding asked (L.ever landing.old) (D.state disk.old) → IsStanding asked (L.ever landing.old) (D.state disk.new) }
     ensures honest { D.tells → IsHonest (D.state disk.new) }
     ensures kept { D.tells → LeavesFile Right (D.state disk.old) (D.state disk.new) }
     ensures present { L.tells → L.present landing.new ≡ L.present landing.old }
@@ -234,7 +234,7 @@ pub fn run<D: Disk, L: Landing, T: Source, S: Sink>(
 
     // Where whatever a crash leaves of the store stood for the table that the text asks for, so it does after the run; where
     // the text asks for none, for any table.
-    ensures stands { T.tells → D.tells → L.tells → (kept : AppendTable) → AsksFor (T.left text.old) kept → HoldsPresent (L.present landing.old) (L.ever landing.old) → IsStanding kept (L.ever landing.old) (D.state disk.old) → IsStanding kept (L.ever landing.old) (D.state disk.new) }
+    ensures stands { T.tells → D.tells → L.tells → (asked : AppendTable) → AsksFor (T.left text.old) asked → HoldsPresent (L.present landing.old) (L.ever landing.old) → IsStanding asked (L.ever landing.old) (D.state disk.old) → IsStanding asked (L.ever landing.old) (D.state disk.new) }
 
     // What a run leaves alone, and how much it reads.
     ensures ours { D.tells → IsOurs (D.state disk.old) → IsOurs (D.state disk.new) }
