@@ -1,4 +1,5 @@
-//! One update of one append table, or of a pipeline without one: what is new in its landing folder goes into the store.
+//! One update of one append table, or of a pipeline without one: what is new in the table's landing folder
+//! goes into the store.
 #![tactic(auto)]
 
 mod commit;
