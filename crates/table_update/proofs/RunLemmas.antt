@@ -43,9 +43,6 @@ is_defined table state some (inr is) = is
 
 -- ---- there is no table
 
-pub first_stored : (definitions more : List Definition) (first : Definition) (state : State) (name : List ℕ) → definitions ≡ definitions_of state → definitions ≡ first ∷ more → name ≡ first.name → NoTableEnds state (update.Removed name)
-first_stored definitions more first state name are split is = (first, more, sym are ∙ split, is)
-
 pub ran_nothing : (timed : Type 0) (files : List LandingFile) (room : ℕ) (end : UpdateEnd) (store : Store) (disk : DiskState) → NoTableEnds (store_state store) end → Stores timed (store_state store) [] [] disk disk → IsAsLeft store disk
     → HasRun timed None files room (log_end (store_log store)) (store_state store) end store disk disk
 ran_nothing timed files room end store disk ends stores left = record {

@@ -51,7 +51,7 @@ fn go_on<D: Disk, L: Landing>(
     requires honest { D.tells → IsHonest (D.state disk.old) }
     requires sound { IsTrue (is_sound_plan (option_copied table)) }
 
-    ensures ran { D.tells → L.tells → IsHonest (D.state disk.old) → HasRun D.tells_moments (option_copied table) (L.present landing.old) (D.room disk.old) (log_end (store_log store.old)) (store_state store.old) result store.new (D.state disk.old) (D.state disk.new) }
+    ensures ran { D.tells → L.tells → IsHonest (D.state disk.old) → HasRun D.tells_moments (option_copied table.entry) (L.present landing.old) (D.room disk.old) (log_end (store_log store.old)) (store_state store.old) result store.new (D.state disk.old) (D.state disk.new) }
     ensures honest { D.tells → IsHonest (D.state disk.old) → IsHonest (D.state disk.new) }
     ensures ours { D.tells → IsHonest (D.state disk.old) → IsOurs (D.state disk.old) → IsOurs (D.state disk.new) }
     ensures kept { D.tells → IsHonest (D.state disk.old) → LeavesFile Right (D.state disk.old) (D.state disk.new) }
@@ -92,12 +92,12 @@ pub fn update<D: Disk, L: Landing>(
     requires sound { IsTrue (is_sound_plan (option_copied table)) }
 
     // How it ended, which payloads it committed, and what a crash leaves.
-    ensures updated { D.tells → L.tells → Updated D.tells_moments (option_copied table) (record { bytes = (D.state disk.old).now.left; room = D.room disk.old; landing = L.present landing.old }) result (D.state disk.old) (D.state disk.new) }
+    ensures updated { D.tells → L.tells → Updated D.tells_moments (option_copied table.entry) (record { bytes = (D.state disk.old).now.left; room = D.room disk.old; landing = L.present landing.old }) result (D.state disk.old) (D.state disk.new) }
     // A store of this kind stays one, whatever a crash leaves.
     ensures ours { D.tells → IsOurs (D.state disk.old) → IsOurs (D.state disk.new) }
 
     // Where whatever a crash leaves of the store stood as it should, so it does after the update.
-    ensures stands { D.tells → L.tells → HoldsPresent (L.present landing.old) (L.ever landing.old) → (asked : AppendTable) → IsFor (option_copied table) asked → IsStanding asked (L.ever landing.old) (D.state disk.old) → IsStanding asked (L.ever landing.old) (D.state disk.new) }
+    ensures stands { D.tells → L.tells → HoldsPresent (L.present landing.old) (L.ever landing.old) → (asked : AppendTable) → IsFor (option_copied table.entry) asked → IsStanding asked (L.ever landing.old) (D.state disk.old) → IsStanding asked (L.ever landing.old) (D.state disk.new) }
 
     // What an update leaves alone.
     ensures honest { D.tells → IsHonest (D.state disk.new) }

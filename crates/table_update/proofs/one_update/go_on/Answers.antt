@@ -10,5 +10,5 @@ returns-in-None-clause-ran g c = λ told landed honest.
     let timed = g.D.Disk.tells_moments in
     let store = c.args.store.now in
     let left = c.requires.at_rest told in
-    ran_nothing timed (g.L.Landing.present c.args.landing.now) (g.D.Disk.room c.args.disk.now) c.nothing.result store disk c.nothing.ensures.ends
-    (stores_still timed (store_state store) disk (left_state store disk left)) left
+    rw c.in-None.is (ran_nothing timed (g.L.Landing.present c.args.landing.now) (g.D.Disk.room c.args.disk.now) c.nothing.result store disk c.nothing.ensures.ends
+    (stores_still timed (store_state store) disk (left_state store disk left)) left)
