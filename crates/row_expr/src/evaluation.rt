@@ -25,46 +25,22 @@ pub fn eval(alloc: Global, e: &Expr, row: &Row) -> Result<Value, RowFault>
         Expr::Negate(a) => negate(eval(alloc, a.get(), row)?),
         Expr::Arithmetic(op, a, b) => {
             let left = eval(alloc, a.get(), row)?;
-            let right = eval(alloc, b.get(), row)?;
-            calculate(*op, &left, &right)
+            calculate(*op, &left, &eval(alloc, b.get(), row)?)
         }
         Expr::Concat(a, b) => {
             let left = eval(alloc, a.get(), row)?;
-            let right = eval(alloc, b.get(), row)?;
-            join(alloc, &left, &right)
+            join(alloc, &left, &eval(alloc, b.get(), row)?)
         }
         Expr::Compare(op, a, b) => {
             let left = eval(alloc, a.get(), row)?;
-            let right = eval(alloc, b.get(), row)?;
-            Ok(compare(*op, &left, &right))
+            Ok(compare(*op, &left, &eval(alloc, b.get(), row)?))
         }
-        Expr::And(a, b) => {
-            let left = eval(alloc, a.get(), row)?;
-            if left.is_false() {
-                return Ok(Value::Bool(false));
-            }
-            let right = eval(alloc, b.get(), row)?;
-            Ok(is_met(&left, &right))
-        }
-        Expr::Or(a, b) => {
-            let left = opposite(eval(alloc, a.get(), row)?);
-            if left.is_false() {
-                return Ok(Value::Bool(true));
-            }
-            let right = opposite(eval(alloc, b.get(), row)?);
-            Ok(opposite(is_met(&left, &right)))
-        }
+        Expr::And(a, b) => conjunction(alloc, eval(alloc, a.get(), row)?, b.get(), row),
+        Expr::Or(a, b) => disjunction(alloc, eval(alloc, a.get(), row)?, b.get(), row),
         Expr::Not(a) => Ok(opposite(eval(alloc, a.get(), row)?)),
-        Expr::IsNull(a) => {
-            let value = eval(alloc, a.get(), row)?;
-            Ok(Value::Bool(value.is_null()))
-        }
+        Expr::IsNull(a) => Ok(Value::Bool(eval(alloc, a.get(), row)?.is_null())),
         Expr::InList(a, elements) => {
-            let value = eval(alloc, a.get(), row)?;
-            if value.is_null() {
-                return Ok(Value::Null);
-            }
-            among(alloc, &value, elements.as_slice(), row)
+            listed(alloc, eval(alloc, a.get(), row)?, elements.as_slice(), row)
         }
         Expr::Between(a, low, high) => {
             let value = eval(alloc, a.get(), row)?;
@@ -74,8 +50,7 @@ pub fn eval(alloc: Global, e: &Expr, row: &Row) -> Result<Value, RowFault>
         }
         Expr::Case(arms, other) => {
             for arm in arms.as_slice() {
-                let condition = eval(alloc, &arm.when, row)?;
-                if condition.is_true() {
+                if eval(alloc, &arm.when, row)?.is_true() {
                     return eval(alloc, &arm.gives, row);
                 }
             }
@@ -87,6 +62,44 @@ pub fn eval(alloc: Global, e: &Expr, row: &Row) -> Result<Value, RowFault>
     }
 }
 
+/// `left AND b`: false at the first operand that is false, and then `b` isn't evaluated.
+#[cycle(eval)]
+fn conjunction(alloc: Global, left: Value, b: &Expr, row: &Row) -> Result<Value, RowFault>
+    ensures { Answers (spec.conjunction (Ok left) (val b.now row.now)) result }
+{
+    if left.is_false() {
+        return Ok(Value::Bool(false));
+    }
+    let right = eval(alloc, b, row)?;
+    Ok(is_met(&left, &right))
+}
+
+/// `left OR b`: true at the first operand that is true, and then `b` isn't evaluated.
+#[cycle(eval)]
+fn disjunction(alloc: Global, left: Value, b: &Expr, row: &Row) -> Result<Value, RowFault>
+    ensures { Answers (spec.disjunction (Ok left) (val b.now row.now)) result }
+{
+    let left = opposite(left);
+    if left.is_false() {
+        return Ok(Value::Bool(true));
+    }
+    let right = opposite(eval(alloc, b, row)?);
+    Ok(opposite(is_met(&left, &right)))
+}
+
+/// `value IN (elements)`: NULL of NULL, and then no element is evaluated.
+#[cycle(eval)]
+fn listed(alloc: Global, value: Value, elements: &[Expr], row: &Row) -> Result<Value, RowFault>
+    ensures { Answers (spec.listed (Ok value) (spec.outcomes row.now (map val elements.now))) result }
+{
+    if value.is_null() {
+        return Ok(Value::Null);
+    }
+    among(alloc, &value, elements, row)
+}
+
+/// TRUE at the first element that is equal, and then the rest isn't evaluated; else NULL where one
+/// was NULL, else FALSE.
 #[cycle(eval)]
 fn among(alloc: Global, value: &Value, elements: &[Expr], row: &Row) -> Result<Value, RowFault>
     ensures { Answers (spec.among value.now false (spec.outcomes row.now (map val elements.now))) result }
@@ -107,6 +120,7 @@ fn among(alloc: Global, value: &Value, elements: &[Expr], row: &Row) -> Result<V
     }
 }
 
+/// The first value that isn't NULL, and then the rest isn't evaluated; else NULL.
 #[cycle(eval)]
 fn first_known(alloc: Global, operands: &[Expr], row: &Row) -> Result<Value, RowFault>
     ensures { Answers (spec.first_known (spec.outcomes row.now (map val operands.now))) result }
