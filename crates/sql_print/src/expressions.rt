@@ -1,12 +1,13 @@
 //! The print of expressions.
 
-ghost use Rattle.std.specs.Prelude.{◌≡◌, if◌then◌else◌, map, OnOk};
+ghost use Rattle.std.specs.Prelude.{◌≡◌, [], ◌∷◌, ◌++◌, codes, if◌then◌else◌, map, OnOk};
 ghost use Rattle.sql_tree.specs.Lexemes.{kind, same_kind};
 ghost use Rattle.sql_tree.specs.Print as print;
 ghost use Rattle.sql_print.specs.Writing.{put, puts, IsPlain};
 
 use crate::writer::Writer;
 use sql_tree::{LexemeKind, SqlArm, SqlExpr, SqlOp, SqlType};
+use sqlite_items::Boxed;
 use std::alloc::{AllocError, Global};
 
 /// The lexeme of an operator.
@@ -111,7 +112,15 @@ fn open_call(out: &mut Writer, function: &str) -> Result<(), AllocError>
     out.token(LexemeKind::LParen)
 }
 
-/// The print of an expression. Operators, tests and NOT stand in parentheses.
+/// `count(*)`.
+fn count_all(out: &mut Writer) -> Result<(), AllocError>
+    ensures { OnOk result (out.new ≡ puts out.old (print.word (codes "count") ∷ print.in_parens (print.token LexemeKind.Star ∷ []))) }
+{
+    open_call(out, "count")?;
+    out.token(LexemeKind::Star)?;
+    out.token(LexemeKind::RParen)
+}
+
 /// An expression: each operator, test and NOT in parentheses of its own.
 #[cycle(print)]
 pub fn expr(out: &mut Writer, alloc: Global, tree: &SqlExpr) -> Result<(), AllocError>
@@ -123,49 +132,20 @@ pub fn expr(out: &mut Writer, alloc: Global, tree: &SqlExpr) -> Result<(), Alloc
         SqlExpr::Bool(is_true) => truth(out, *is_true),
         SqlExpr::Null => out.token(LexemeKind::Null),
         SqlExpr::Name(name) => out.name(name),
-        SqlExpr::Neg(x) => {
-            let is_plain = is_plain_number(x.get());
-            out.token(LexemeKind::LParen)?;
-            out.token(LexemeKind::Minus)?;
-            out.token_if(is_plain, LexemeKind::LParen)?;
-            expr(out, alloc, x.get())?;
-            out.token_if(is_plain, LexemeKind::RParen)?;
-            out.token(LexemeKind::RParen)
-        }
-        SqlExpr::Not(x) => {
-            out.token(LexemeKind::LParen)?;
-            out.token(LexemeKind::Not)?;
-            expr(out, alloc, x.get())?;
-            out.token(LexemeKind::RParen)
-        }
+        SqlExpr::Neg(x) => negative(out, alloc, x.get()),
+        SqlExpr::Not(x) => inverted(out, alloc, x.get()),
         SqlExpr::Binary { op, left, right } => {
-            out.token(LexemeKind::LParen)?;
-            expr(out, alloc, left.get())?;
-            out.token(operator(*op))?;
-            expr(out, alloc, right.get())?;
-            out.token(LexemeKind::RParen)
+            opened(out, alloc, left.get())?;
+            infix(out, alloc, *op, right.get())
         }
-        SqlExpr::IsNull { expr: x, negated } => {
-            out.token(LexemeKind::LParen)?;
-            expr(out, alloc, x.get())?;
-            out.token(LexemeKind::Is)?;
-            out.token_if(*negated, LexemeKind::Not)?;
-            out.token(LexemeKind::Null)?;
-            out.token(LexemeKind::RParen)
-        }
+        SqlExpr::IsNull { expr: x, negated } => null_test(out, alloc, x.get(), *negated),
         SqlExpr::InList {
             expr: x,
             list,
             negated,
         } => {
-            out.token(LexemeKind::LParen)?;
-            expr(out, alloc, x.get())?;
-            out.token_if(*negated, LexemeKind::Not)?;
-            out.token(LexemeKind::In)?;
-            out.token(LexemeKind::LParen)?;
-            exprs(out, alloc, list.as_slice())?;
-            out.token(LexemeKind::RParen)?;
-            out.token(LexemeKind::RParen)
+            opened(out, alloc, x.get())?;
+            listed(out, alloc, list.as_slice(), *negated)
         }
         SqlExpr::Between {
             expr: x,
@@ -173,74 +153,174 @@ pub fn expr(out: &mut Writer, alloc: Global, tree: &SqlExpr) -> Result<(), Alloc
             high,
             negated,
         } => {
-            out.token(LexemeKind::LParen)?;
-            expr(out, alloc, x.get())?;
-            out.token_if(*negated, LexemeKind::Not)?;
-            out.token(LexemeKind::Between)?;
-            expr(out, alloc, low.get())?;
-            out.token(LexemeKind::And)?;
-            expr(out, alloc, high.get())?;
-            out.token(LexemeKind::RParen)
+            opened(out, alloc, x.get())?;
+            between(out, alloc, low.get(), *negated)?;
+            closed(out, alloc, high.get())
         }
         SqlExpr::Case { arms, other } => {
-            out.token(LexemeKind::Case)?;
             case_arms(out, alloc, arms.as_slice())?;
-            match other {
-                None => out.token(LexemeKind::EndWord),
-                Some(x) => {
-                    out.token(LexemeKind::Else)?;
-                    expr(out, alloc, x.get())?;
-                    out.token(LexemeKind::EndWord)
-                }
-            }
+            case_end(out, alloc, other)
         }
         SqlExpr::Cast {
             expr: x,
             kind,
             trying,
-        } => {
-            cast(out, *trying)?;
-            out.token(LexemeKind::LParen)?;
-            expr(out, alloc, x.get())?;
-            out.token(LexemeKind::As)?;
-            type_word(out, *kind)?;
-            out.token(LexemeKind::RParen)
-        }
-        SqlExpr::Coalesce(list) => {
-            open_call(out, "coalesce")?;
-            exprs(out, alloc, list.as_slice())?;
-            out.token(LexemeKind::RParen)
-        }
-        SqlExpr::CountAll => {
-            open_call(out, "count")?;
-            out.token(LexemeKind::Star)?;
-            out.token(LexemeKind::RParen)
-        }
-        SqlExpr::Count(x) => {
-            open_call(out, "count")?;
-            expr(out, alloc, x.get())?;
-            out.token(LexemeKind::RParen)
-        }
-        SqlExpr::Sum(x) => {
-            open_call(out, "sum")?;
-            expr(out, alloc, x.get())?;
-            out.token(LexemeKind::RParen)
-        }
-        SqlExpr::Min(x) => {
-            open_call(out, "min")?;
-            expr(out, alloc, x.get())?;
-            out.token(LexemeKind::RParen)
-        }
-        SqlExpr::Max(x) => {
-            open_call(out, "max")?;
-            expr(out, alloc, x.get())?;
-            out.token(LexemeKind::RParen)
-        }
+        } => cast_of(out, alloc, x.get(), *kind, *trying),
+        SqlExpr::Coalesce(list) => coalesce(out, alloc, list.as_slice()),
+        SqlExpr::CountAll => count_all(out),
+        SqlExpr::Count(x) => call(out, alloc, "count", x.get()),
+        SqlExpr::Sum(x) => call(out, alloc, "sum", x.get()),
+        SqlExpr::Min(x) => call(out, alloc, "min", x.get()),
+        SqlExpr::Max(x) => call(out, alloc, "max", x.get()),
     }
 }
 
+/// `( x`, as far as the first operand of an operator or a test.
+#[cycle(print)]
+fn opened(out: &mut Writer, alloc: Global, x: &SqlExpr) -> Result<(), AllocError>
+    ensures { OnOk result (out.new ≡ puts (put out.old (print.token LexemeKind.LParen)) (print.expr_print x.now)) }
+{
+    out.token(LexemeKind::LParen)?;
+    expr(out, alloc, x)
+}
+
+/// `x )`, from the last operand on.
+#[cycle(print)]
+fn closed(out: &mut Writer, alloc: Global, x: &SqlExpr) -> Result<(), AllocError>
+    ensures { OnOk result (out.new ≡ put (puts out.old (print.expr_print x.now)) (print.token LexemeKind.RParen)) }
+{
+    expr(out, alloc, x)?;
+    out.token(LexemeKind::RParen)
+}
+
+/// `( - x )`, where a literal that isn't negative has parentheses of its own.
+#[cycle(print)]
+fn negative(out: &mut Writer, alloc: Global, x: &SqlExpr) -> Result<(), AllocError>
+    ensures { OnOk result (out.new ≡ puts out.old (print.in_parens (print.token LexemeKind.Minus ∷ print.operand (print.expr_print x.now)))) }
+{
+    let is_plain = is_plain_number(x);
+    out.token(LexemeKind::LParen)?;
+    out.token(LexemeKind::Minus)?;
+    out.token_if(is_plain, LexemeKind::LParen)?;
+    expr(out, alloc, x)?;
+    out.token_if(is_plain, LexemeKind::RParen)?;
+    out.token(LexemeKind::RParen)
+}
+
+/// `( NOT x )`.
+#[cycle(print)]
+fn inverted(out: &mut Writer, alloc: Global, x: &SqlExpr) -> Result<(), AllocError>
+    ensures { OnOk result (out.new ≡ puts out.old (print.in_parens (print.token LexemeKind.Not ∷ print.expr_print x.now))) }
+{
+    out.token(LexemeKind::LParen)?;
+    out.token(LexemeKind::Not)?;
+    closed(out, alloc, x)
+}
+
+/// `op right )`, behind the left operand.
+#[cycle(print)]
+fn infix(out: &mut Writer, alloc: Global, op: SqlOp, right: &SqlExpr) -> Result<(), AllocError>
+    ensures { OnOk result (out.new ≡ put (puts (put out.old (print.token (print.operator op))) (print.expr_print right.now)) (print.token LexemeKind.RParen)) }
+{
+    out.token(operator(op))?;
+    closed(out, alloc, right)
+}
+
+/// `( x IS [NOT] NULL )`.
+#[cycle(print)]
+fn null_test(out: &mut Writer, alloc: Global, x: &SqlExpr, negated: bool) -> Result<(), AllocError>
+    ensures { OnOk result (out.new ≡ puts out.old (print.in_parens (print.expr_print x.now ++ print.token LexemeKind.Is ∷ print.not_if negated ++ print.token LexemeKind.Null ∷ []))) }
+{
+    opened(out, alloc, x)?;
+    out.token(LexemeKind::Is)?;
+    out.token_if(negated, LexemeKind::Not)?;
+    out.token(LexemeKind::Null)?;
+    out.token(LexemeKind::RParen)
+}
+
+/// `[NOT] IN ( list ) )`, behind the operand.
+#[cycle(print)]
+fn listed(
+    out: &mut Writer,
+    alloc: Global,
+    list: &[SqlExpr],
+    negated: bool,
+) -> Result<(), AllocError>
+    ensures { OnOk result (out.new ≡ put (puts (puts out.old (print.not_if negated)) (print.token LexemeKind.In ∷ print.in_parens (print.separated (map print.expr_print list.now)))) (print.token LexemeKind.RParen)) }
+{
+    out.token_if(negated, LexemeKind::Not)?;
+    out.token(LexemeKind::In)?;
+    out.token(LexemeKind::LParen)?;
+    exprs(out, alloc, list)?;
+    out.token(LexemeKind::RParen)?;
+    out.token(LexemeKind::RParen)
+}
+
+/// `[NOT] BETWEEN low AND`, behind the operand.
+#[cycle(print)]
+fn between(out: &mut Writer, alloc: Global, low: &SqlExpr, negated: bool) -> Result<(), AllocError>
+    ensures { OnOk result (out.new ≡ put (puts (put (puts out.old (print.not_if negated)) (print.token LexemeKind.Between)) (print.expr_print low.now)) (print.token LexemeKind.And)) }
+{
+    out.token_if(negated, LexemeKind::Not)?;
+    out.token(LexemeKind::Between)?;
+    expr(out, alloc, low)?;
+    out.token(LexemeKind::And)
+}
+
+/// `[ELSE x] END`, behind the arms.
+#[cycle(print)]
+fn case_end(
+    out: &mut Writer,
+    alloc: Global,
+    other: &Option<Boxed<SqlExpr>>,
+) -> Result<(), AllocError>
+    ensures { OnOk result (out.new ≡ put (puts out.old (print.if_some (λ x. print.token LexemeKind.Else ∷ print.expr_print x) other.now)) (print.token LexemeKind.EndWord)) }
+{
+    if let Some(x) = other {
+        out.token(LexemeKind::Else)?;
+        expr(out, alloc, x.get())?;
+    }
+    out.token(LexemeKind::EndWord)
+}
+
+/// `CAST ( x AS kind )`, or TRY_CAST.
+#[cycle(print)]
+fn cast_of(
+    out: &mut Writer,
+    alloc: Global,
+    x: &SqlExpr,
+    kind: SqlType,
+    trying: bool,
+) -> Result<(), AllocError>
+    ensures { OnOk result (out.new ≡ puts out.old (print.token (if trying then LexemeKind.TryCast else LexemeKind.Cast) ∷ print.in_parens (print.expr_print x.now ++ print.token LexemeKind.As ∷ print.type_word kind ∷ []))) }
+{
+    cast(out, trying)?;
+    opened(out, alloc, x)?;
+    out.token(LexemeKind::As)?;
+    type_word(out, kind)?;
+    out.token(LexemeKind::RParen)
+}
+
+/// `coalesce ( list )`.
+#[cycle(print)]
+fn coalesce(out: &mut Writer, alloc: Global, list: &[SqlExpr]) -> Result<(), AllocError>
+    ensures { OnOk result (out.new ≡ puts out.old (print.word (codes "coalesce") ∷ print.in_parens (print.separated (map print.expr_print list.now)))) }
+{
+    open_call(out, "coalesce")?;
+    exprs(out, alloc, list)?;
+    out.token(LexemeKind::RParen)
+}
+
+/// A function's name and its one argument in parentheses.
+#[cycle(print)]
+fn call(out: &mut Writer, alloc: Global, function: &str, x: &SqlExpr) -> Result<(), AllocError>
+    ensures { OnOk result (out.new ≡ puts out.old (print.word function.now ∷ print.in_parens (print.expr_print x.now))) }
+{
+    open_call(out, function)?;
+    closed(out, alloc, x)
+}
+
 /// Expressions with a comma between two of them.
-/// Expressions with commas between them.
 #[cycle(print)]
 pub fn exprs(out: &mut Writer, alloc: Global, list: &[SqlExpr]) -> Result<(), AllocError>
     ensures { OnOk result (out.new ≡ puts out.old (print.separated (map print.expr_print list.now))) }
@@ -254,11 +334,12 @@ pub fn exprs(out: &mut Writer, alloc: Global, list: &[SqlExpr]) -> Result<(), Al
     Ok(())
 }
 
-/// The WHEN and THEN of each arm.
+/// CASE, and then the WHEN and THEN of each arm.
 #[cycle(print)]
 fn case_arms(out: &mut Writer, alloc: Global, arms: &[SqlArm]) -> Result<(), AllocError>
-    ensures { OnOk result (out.new ≡ puts out.old (print.all_of (map print.arm_print arms.now))) }
+    ensures { OnOk result (out.new ≡ puts (put out.old (print.token LexemeKind.Case)) (print.all_of (map print.arm_print arms.now))) }
 {
+    out.token(LexemeKind::Case)?;
     for arm in arms {
         out.token(LexemeKind::When)?;
         expr(out, alloc, &arm.when)?;
