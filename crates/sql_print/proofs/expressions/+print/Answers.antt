@@ -1,4 +1,4 @@
-use Rattle.std.proofs.Common.{◌≡◌, ◌∙◌, Result, Ok, Err, OnOk, List, Option, Some, None, [], ◌∷◌, map, sym, ap, ap₂, refl, to_z, of_z, w64, to_z-of_z, rules, drop, true, ℕ, ◌+◌}
+use Rattle.std.proofs.Common.{◌≡◌, ◌∙◌, Result, Ok, Err, OnOk, List, Option, Some, None, [], ◌∷◌, ◌++◌, map, sym, ap, ap₂, refl, to_z, of_z, w64, to_z-of_z, rules, drop, true, ℕ, ◌+◌}
 use Rattle.std.specs.declared.alloc.AllocError.{AllocError}
 use Rattle.std.specs.Prelude.{codes, if◌then◌else◌}
 use Rattle.sql_tree.specs.Lexemes.{kind, same_kind}
@@ -89,6 +89,43 @@ expr-returns-in_ok-between-in-Between t c = ends _ _ _ _ c.closed.ensures (ap₂
 pub expr-returns-in_ok-case_arms-in-Case : goal.expr-returns-in_ok-case_arms-in-Case
 expr-returns-in_ok-case_arms-in-Case t c = ends _ _ _ _ c.case_end.ensures (ap (λ w. put (puts w (if_some (λ x. token k.Else ∷ expr_print x) c.in-Case.other)) (token k.EndWord)) (c.in_ok-case_arms-in-Case.ensures ∙ ap (λ xs. puts (put c.args.out.now (token k.Case)) (all_of (map arm_print xs))) c.as_slice-in-Case.ensures) ∙
     sym (ap (λ x. puts c.args.out.now (expr_print x)) c.in-Case.is ∙ case_is c.args.out.now c.in-Case.arms c.in-Case.other))
+
+pub opened-returns : goal.opened-returns
+opened-returns t c = ends _ _ _ _ c.expr.ensures (ap (λ w. puts w (expr_print c.args.x.now)) c.in_ok-token.ensures)
+
+pub closed-returns : goal.closed-returns
+closed-returns t c = ends _ _ _ _ c.token.ensures (ap (λ w. put w right) c.in_ok-expr.ensures)
+
+pub negative-returns : goal.negative-returns
+negative-returns t c = ends _ _ _ _ c.token-3.ensures (ap (λ w. put w right) (c.in_ok-token_if-2.ensures ∙ ap₂ (λ w b. puts w (only_if b right)) (c.in_ok-expr.ensures ∙ ap (λ w. puts w (expr_print c.args.x.now)) (c.in_ok-token_if.ensures ∙ ap₂ (λ w b. puts w (only_if b left)) (c.in_ok-token-2.ensures ∙ ap (λ w. put w (token k.Minus)) c.in_ok-token.ensures) c.is_plain_number-is_plain.ensures)) c.is_plain_number-is_plain.ensures) ∙
+    sym (flat_neg c.args.out.now (expr_print c.args.x.now)))
+
+pub inverted-returns : goal.inverted-returns
+inverted-returns t c = ends _ _ _ _ c.closed.ensures (ap (λ w. put (puts w (expr_print c.args.x.now)) right) (c.in_ok-token-2.ensures ∙ ap (λ w. put w (token k.Not)) c.in_ok-token.ensures) ∙ sym (flat_not c.args.out.now (expr_print c.args.x.now)))
+
+pub infix-returns : goal.infix-returns
+infix-returns t c = ends _ _ _ _ c.closed.ensures (ap (λ w. put (puts w (expr_print c.args.right.now)) right) (c.in_ok-token.ensures ∙ ap (λ t. put c.args.out.now (token t)) c.operator.ensures.value))
+
+pub null_test-returns : goal.null_test-returns
+null_test-returns t c = ends _ _ _ _ c.token-3.ensures (ap (λ w. put w right) (c.in_ok-token-2.ensures ∙ ap (λ w. put w (token k.Null)) (c.in_ok-token_if.ensures ∙ ap (λ w. puts w (not_if c.args.negated)) (c.in_ok-token.ensures ∙ ap (λ w. put w (token k.Is)) c.in_ok-opened.ensures))) ∙
+    sym (flat_is_null c.args.out.now (expr_print c.args.x.now) (not_if c.args.negated)))
+
+pub listed-returns : goal.listed-returns
+listed-returns t c = ends _ _ _ _ c.token-4.ensures (ap (λ w. put w right) (c.in_ok-token-3.ensures ∙ ap (λ w. put w right) (c.in_ok-exprs.ensures ∙ ap (λ w. puts w (separated (map expr_print c.args.list.now))) (c.in_ok-token-2.ensures ∙ ap (λ w. put w left) (c.in_ok-token.ensures ∙ ap (λ w. put w (token k.In)) c.in_ok-token_if.ensures))) ∙
+    sym (flat_call (puts c.args.out.now (not_if c.args.negated)) (token k.In) (separated (map expr_print c.args.list.now)))))
+
+pub between-returns : goal.between-returns
+between-returns t c = ends _ _ _ _ c.token-2.ensures (ap (λ w. put w (token k.And)) (c.in_ok-expr.ensures ∙ ap (λ w. puts w (expr_print c.args.low.now)) (c.in_ok-token.ensures ∙ ap (λ w. put w (token k.Between)) c.in_ok-token_if.ensures)))
+
+pub cast_of-returns : goal.cast_of-returns
+cast_of-returns t c = ends _ _ _ _ c.token-2.ensures (ap (λ w. put w right) (c.in_ok-type_word.ensures ∙ ap (λ w. put w (type_word c.args.kind)) (c.in_ok-token.ensures ∙ ap (λ w. put w (token k.As)) (c.in_ok-opened.ensures ∙ ap (λ w. puts (put w left) (expr_print c.args.x.now)) c.in_ok-cast.ensures))) ∙
+    sym (flat_cast c.args.out.now (token (if c.args.trying then k.TryCast else k.Cast)) (type_word c.args.kind) (expr_print c.args.x.now)))
+
+pub coalesce-returns : goal.coalesce-returns
+coalesce-returns t c = ends _ _ _ _ c.token.ensures (ap (λ w. put w right) (c.in_ok-exprs.ensures ∙ ap (λ w. puts w (separated (map expr_print c.args.list.now))) c.in_ok-open_call.ensures) ∙ sym (flat_call c.args.out.now (word (codes "coalesce")) (separated (map expr_print c.args.list.now))))
+
+pub call-returns : goal.call-returns
+call-returns t c = ends _ _ _ _ c.closed.ensures (ap (λ w. put (puts w (expr_print c.args.x.now)) right) c.in_ok-open_call.ensures ∙ sym (flat_call c.args.out.now (word c.args.function.now) (expr_print c.args.x.now)))
 
 pub exprs-loop-tree-preserved : goal.exprs-loop-tree-preserved
 exprs-loop-tree-preserved t c =
