@@ -1,0 +1,1 @@
+use Rattle.pipeline_run.proofs.program.updated.Goals as goal
