@@ -1,42 +1,23 @@
 // What is printed of an update.
-ghost use Rattle.std.specs.Prelude.{◌≡◌, [], ◌∷◌, ◌++◌, OnOk, IfOk};
-ghost use Rattle.pipeline_run.specs.Report.{changed_line as the_changed_line, ended, escaped, escaped_byte, printed_end, shrunk_line as the_shrunk_line, status_of_end, store_refused, versions_line as the_versions_line};
+ghost use Rattle.std.specs.Prelude.{◌≡◌, Option, List, ℕ, [], ◌∷◌, ◌++◌, codes, IfOk};
+ghost use Rattle.std.specs.Fmt.{decimal};
+ghost use Rattle.std.specs.Option.{option_copied};
+ghost use Rattle.pipeline_run.specs.Escape.{ended, escaped};
+ghost use Rattle.pipeline_run.specs.Report.{changed_line as the_changed_line, flow_line as the_flow_line, printed_end, shrunk_text as the_shrunk_text, status_of_end, store_refused, versions_line as the_versions_line};
 
+use crate::escape::{put, put_escaped};
 use crate::outcome::Status;
 use std::alloc::{AllocError, Global};
 use table_update::UpdateEnd;
 use value_core::{Name, Text};
-
-fn put_escaped_byte(out: &mut Vec<u8>, byte: u8) -> Result<(), AllocError>
-    ensures { OnOk result (out.new.items ≡ out.old.items ++ escaped_byte byte) }
-{
-    match byte {
-        b'\\' => out.extend_from_slice(b"\\\\")?,
-        b'|' => out.extend_from_slice(b"\\|")?,
-        b'\n' => out.extend_from_slice(b"\\n")?,
-        b'\r' => out.extend_from_slice(b"\\r")?,
-        b'\t' => out.extend_from_slice(b"\\t")?,
-        other => out.push(other)?,
-    }
-    Ok(())
-}
-
-fn put_escaped(out: &mut Vec<u8>, text: &[u8]) -> Result<(), AllocError>
-    ensures { OnOk result (out.new.items ≡ out.old.items ++ escaped text.now) }
-{
-    for byte in text {
-        put_escaped_byte(out, *byte)?;
-    }
-    Ok(())
-}
 
 /// A name, escaped, between two texts.
 fn named(alloc: Global, before: &str, name: &str, behind: &str) -> Result<Vec<u8>, AllocError>
     ensures { IfOk result (λ line. line.items ≡ before.now ++ escaped name.now ++ behind.now) }
 {
     let mut line = Vec::from_slice(alloc, before.as_bytes())?;
-    put_escaped(&mut line, name.as_bytes())?;
-    line.extend_from_slice(behind.as_bytes())?;
+    put_escaped(&mut line, name)?;
+    put(&mut line, behind)?;
     Ok(line)
 }
 
@@ -50,9 +31,9 @@ fn changed_line(
     ensures { IfOk result (λ line. line.items ≡ ended (store_refused (the_changed_line name.now stored.now given.now))) }
 {
     let mut line = named(alloc, "store refused: changed ", name.as_str(), ": stored ")?;
-    put_escaped(&mut line, stored.as_str().as_bytes())?;
-    line.extend_from_slice(b", given ")?;
-    put_escaped(&mut line, given.as_str().as_bytes())?;
+    put_escaped(&mut line, stored.as_str())?;
+    put(&mut line, ", given ")?;
+    put_escaped(&mut line, given.as_str())?;
     line.push(b'\n')?;
     Ok(line)
 }
@@ -71,14 +52,36 @@ fn versions_full_line(alloc: Global, name: &Name) -> Result<Vec<u8>, AllocError>
     Ok(line)
 }
 
-/// The line of a file that is shorter than its place.
-fn shrunk_line(alloc: Global, file: &Text, cursor: u64, size: u64) -> Result<Vec<u8>, AllocError>
-    ensures { IfOk result (λ line. line.items ≡ the_shrunk_line file.now cursor size ++ 10 ∷ []) }
+/// How the flow of a file ends that is shorter than its place.
+fn shrunk_text(alloc: Global, file: &Text, cursor: u64, size: u64) -> Result<Vec<u8>, AllocError>
+    ensures { IfOk result (λ text. text.items ≡ the_shrunk_text file.now cursor size) }
 {
-    let mut line = Vec::from_slice(alloc, b"flow t into t: stopped: file ")?;
-    put_escaped(&mut line, file.as_str().as_bytes())?;
-    let rest = format!(in alloc; " shrunk: cursor {cursor}, size {size}\n")?;
-    line.extend_from_slice(rest.as_bytes())?;
+    let mut text = Vec::from_slice(alloc, b"stopped: file ")?;
+    put_escaped(&mut text, file.as_str())?;
+    let rest = format!(in alloc; " shrunk: cursor {cursor}, size {size}")?;
+    put(&mut text, rest.as_str())?;
+    Ok(text)
+}
+
+/// How a flow ends that took lines.
+fn completed_text(alloc: Global, read: u64, version: u64) -> Result<Vec<u8>, AllocError>
+    ensures { IfOk result (λ text. text.items ≡ codes "completed, " ++ decimal read ++ codes " rows read, version " ++ decimal version) }
+{
+    Ok(format!(in alloc; "completed, {read} rows read, version {version}")?.into_bytes())
+}
+
+/// How the flow of the table of this name ended, and nothing without a table.
+fn flow_line(alloc: Global, table: Option<&Name>, text: &[u8]) -> Result<Vec<u8>, AllocError>
+    ensures { IfOk result (λ line. line.items ≡ the_flow_line (option_copied table.entry) text.now) }
+{
+    let Some(name) = table else {
+        return Ok(Vec::new(alloc));
+    };
+    let mut line = named(alloc, "flow ", name.as_str(), " into ")?;
+    put_escaped(&mut line, name.as_str())?;
+    put(&mut line, ": ")?;
+    line.extend_from_slice(text)?;
+    line.push(b'\n')?;
     Ok(line)
 }
 
@@ -89,9 +92,14 @@ pub(crate) fn plain(alloc: Global, line: &str) -> Result<Vec<u8>, AllocError>
     Vec::from_slice(alloc, line.as_bytes())
 }
 
-/// What is printed of an update: the line of its end, and nothing where memory ran out.
-pub(crate) fn end_line(alloc: Global, end: &UpdateEnd) -> Result<Vec<u8>, AllocError>
-    ensures { IfOk result (λ line. line.items ≡ printed_end end.now) }
+/// What is printed of an update of the table of this name, or of none: the line of its end, and nothing where
+/// memory ran out, or where the line would be that of a flow and there is no table.
+pub(crate) fn end_line(
+    alloc: Global,
+    table: Option<&Name>,
+    end: &UpdateEnd,
+) -> Result<Vec<u8>, AllocError>
+    ensures { IfOk result (λ line. line.items ≡ printed_end (option_copied table.entry) end.now) }
 {
     match end {
         UpdateEnd::LoadFailed | UpdateEnd::CommitFailed => plain(alloc, "disk failed\n"),
@@ -114,13 +122,15 @@ pub(crate) fn end_line(alloc: Global, end: &UpdateEnd) -> Result<Vec<u8>, AllocE
             "store refused: full: end {end}, room {room}\n"
         )?.into_bytes()),
         UpdateEnd::VersionFull { name } => versions_full_line(alloc, name),
-        UpdateEnd::LandingFailed => plain(alloc, "flow t into t: stopped: landing failed\n"),
-        UpdateEnd::Shrunk { file, cursor, size } => shrunk_line(alloc, file, *cursor, *size),
-        UpdateEnd::Current => plain(alloc, "flow t into t: current\n"),
+        UpdateEnd::LandingFailed => flow_line(alloc, table, b"stopped: landing failed"),
+        UpdateEnd::Shrunk { file, cursor, size } => {
+            let text = shrunk_text(alloc, file, *cursor, *size)?;
+            flow_line(alloc, table, text.as_slice())
+        }
+        UpdateEnd::Current => flow_line(alloc, table, b"current"),
         UpdateEnd::Completed { read, version } => {
-            Ok(format!(in alloc;
-                "flow t into t: completed, {read} rows read, version {version}\n"
-            )?.into_bytes())
+            let text = completed_text(alloc, *read, *version)?;
+            flow_line(alloc, table, text.as_slice())
         }
         UpdateEnd::Memory => Ok(Vec::new(alloc)),
     }
