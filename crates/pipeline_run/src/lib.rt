@@ -1,12 +1,15 @@
-//! One table from the JSON lines of a growing folder, kept in one file.
+//! A run of a pipeline: its commands in order, over a store in one file.
 #![tactic(auto)]
 
 mod command;
 mod end_line;
+mod escape;
+mod fault_line;
 mod in_memory;
 mod laws;
 mod outcome;
 mod pipeline;
+mod plan_line;
 mod program;
 mod report;
 mod table;
