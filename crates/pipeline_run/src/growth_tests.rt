@@ -15,6 +15,7 @@ struct Growth {
 }
 
 /// A pipeline, its table, a file of its folder, and how that file grows.
+#[derive(Drop)]
 struct Grown {
     text: &'static str,
     table: &'static str,

@@ -79,8 +79,8 @@ const OPTIONS: [Line; 9] = [
         b"pipeline refused: statement 1: bad option path\n",
     ),
     (
-        "CREATE STREAMING TABLE t AS SELECT a FROM STREAM read_files('in', `f|` => 'json', schema => 'a BIGINT')",
-        b"pipeline refused: statement 1: bad option f\\|\n",
+        "CREATE STREAMING TABLE t AS SELECT a FROM STREAM read_files('in', formats => 'json', schema => 'a BIGINT')",
+        b"pipeline refused: statement 1: bad option formats\n",
     ),
     (
         "CREATE STREAMING TABLE t AS SELECT a FROM STREAM read_files('in', schema => 'a BIGINT')",
@@ -121,8 +121,8 @@ fn are_told(
 ) -> Result<(), AllocError> {
     for (text, line) in lines {
         let (status, out) = validated(alloc, text)?;
-        assert!(rt; out.bytes() == *line);
-        assert!(rt; status == wanted);
+        assert!(rt; out.bytes() == *line, "{text}");
+        assert!(rt; status == wanted, "{text}");
     }
     Ok(())
 }
