@@ -144,6 +144,9 @@ not_refused : HasOneAnswer → (text : List ℕ) (statements : List Statement) (
 unfolding HasStatements
 not_refused law text statements refusal has is = law.apart (take text_limit text) statements refusal has is
 
+abbrev break_of : ℕ → CheckFault → Break
+break_of statement fault = record { statement = statement; fault = fault }
+
 one_way : HasOneAnswer → (text : List ℕ) (way other : Way) → IsWay text way → IsWay text other → way ≡ other
 one_way law text (RefusedText r) (RefusedText s) p q = ap RefusedText (law.refused (take text_limit text) r s p q)
 one_way law text (RefusedText r) (BrokenText n f) p q = absurd (not_refused law text q.statements r q.has p)
@@ -151,7 +154,8 @@ one_way law text (RefusedText r) (PlanText plan) p q = absurd (not_refused law t
 one_way law text (BrokenText n f) (RefusedText s) p q = absurd (not_refused law text p.statements s p.has q)
 one_way law text (BrokenText n f) (BrokenText m g) p q =
     let same = one_answer law text p.statements q.statements (broken_at n f) (broken_at m g) p.has q.has p.checked q.checked in
-    cc same
+    let break_is : break_of n f ≡ break_of m g = cc same in
+    ap (λ (broken : Break). BrokenText broken.statement broken.fault) break_is
 one_way law text (BrokenText n f) (PlanText plan) p q =
     absurd (let same = one_answer law text p.statements q.statements (broken_at n f) (Ok plan) p.has q.has p.checked q.checked in cc same)
 one_way law text (PlanText plan) (RefusedText s) p q = absurd (not_refused law text p.statements s p.has q)

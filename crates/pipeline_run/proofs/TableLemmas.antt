@@ -1,6 +1,7 @@
 -- A plan and its table.
-use Rattle.std.proofs.Common.{◌≡◌, ℕ, List, [], ◌∷◌, ◌++◌, length, ◌==◌, map, Bool, true, false, ◌&&◌, ◌||◌, not, if◌then◌else◌, slice_get, Option, Some, None, option_map, Result, Ok, Err, IsTrue, All, refl, sym, ap, subst, ◌∙◌}
+use Rattle.std.proofs.Common.{◌≡◌, ℕ, List, [], ◌∷◌, ◌++◌, ◌≤◌, length, drop, append-nil, ◌==◌, map, Bool, true, false, ◌&&◌, ◌||◌, not, if◌then◌else◌, slice_get, Option, Some, None, option_map, Result, Ok, Err, IsTrue, All, refl, sym, ap, subst, ◌∙◌}
 use Rattle.std.specs.List.{list_all}
+use Rattle.std.proofs.lemmas.List.{drop_all}
 use Rattle.std.proofs.lemmas.List.Elements.{All-head}
 use Rattle.std.proofs.lemmas.Option.{slice_get-map}
 use Rattle.value_core.specs.declared.schema.Column.{Column}
@@ -8,13 +9,17 @@ use Rattle.value_core.specs.declared.shape.Shape.{Shape}
 use Rattle.value_core.specs.declared.value.Kind.{Kind}
 use Rattle.value_core.specs.declared.value.Kind.TheVariants as kind
 use Rattle.line_rows.specs.Lines.{ends_in_text, keeps_text}
-use Rattle.row_expr.specs.Columns.{is_kind}
+use Rattle.row_expr.specs.declared.expr.Expr.{Expr, fold-roll-Expr}
+use Rattle.row_expr.specs.declared.expr.Expr.TheOpen as form
+use Rattle.row_expr.specs.declared.expr.Expr.TheVariants as expr
+use Rattle.row_expr.specs.declared.expr.Expr.TheVariants.{rolls-Column}
+use Rattle.row_expr.specs.Columns.{is_kind, reads_at, arm_reads_at, reads_within}
 use Rattle.row_expr.specs.Kinds as rows
 use Rattle.sql_tree.specs.declared.statement.Statement.{Statement}
 use Rattle.plan_core.specs.declared.plan.Dataset.{Dataset}
 use Rattle.plan_core.specs.Sound.{all_there, kind_over, kinds_of, kinds_over, IsSoundBody, IsSoundFlow, IsSoundPlan}
 use Rattle.file_options.specs.declared.files.FilesRead.{FilesRead}
-use Rattle.file_options.specs.Columns.{column}
+use Rattle.file_options.specs.Schemas.{column}
 use Rattle.file_options.specs.Rules.{By, EndsInText}
 use Rattle.type_check.specs.declared.fault.CheckFault.{CheckFault}
 use Rattle.type_check.specs.declared.outputs.Output as checked
@@ -26,15 +31,25 @@ use Rattle.table_update.specs.declared.table.AppendTable.{AppendTable}
 use Rattle.table_update.specs.declared.table.Output.{Output}
 use Rattle.table_update.specs.Table as tables
 use Rattle.table_update.specs.Table.{columns_of, is_column_of, is_of_kind, is_sound, is_sound_plan}
-use Rattle.pipeline_run.specs.Table.{expr_of, flow_of, dataset_of, plan_of, outputs_of, table_in, IsUpdatable}
+use Rattle.pipeline_run.specs.Table.{expr_of, flow_of, dataset_of, plan_of, place_at, place_of, output_of, outputs_of, table_in, IsUpdatable}
 
 -- ---- the way back is exact
 
+place_back : (place : ℕ) (held : Kind) → place_of (expr.Column place held) ≡ place
+place_back place held = ap place_of (sym (rolls-Column place held)) ∙ fold-roll-Expr ℕ ℕ place_at (λ arm. 0) (form.Column place held)
+
+abbrev at_place : Column → ℕ → Output
+at_place column place = record { place = place; column = column }
+
+output_back : (output : Output) → output_of (expr_of output) output.column ≡ output
+output_back output = ap (at_place output.column) (place_back output.place output.column.kind)
+
 outputs_back : (outputs : List Output) → outputs_of (map expr_of outputs) (columns_of outputs) ≡ outputs
 outputs_back [] = refl
-outputs_back (output ∷ more) = ap (λ (rest : List Output). output ∷ rest) (outputs_back more)
+outputs_back (output ∷ more) =
+    ap (λ (first : Output). first ∷ outputs_of (map expr_of more) (columns_of more)) (output_back output) ∙ ap (λ (rest : List Output). output ∷ rest) (outputs_back more)
 
-with_outputs : AppendTable → List Output → AppendTable
+abbrev with_outputs : AppendTable → List Output → AppendTable
 with_outputs table outputs = record { name = table.name; text = table.text; folder = table.folder; shape = table.shape; outputs = outputs }
 
 pub table_back : (asked : Option AppendTable) → table_in (plan_of asked) ≡ asked
@@ -57,10 +72,10 @@ table_keeps plan table updatable is = ap is_sound_plan (table_is plan table upda
 
 -- ---- checked statements have a plan of a table
 
-output_over : checked.Output → Output
+abbrev output_over : checked.Output → Output
 output_over output = record { place = output.place; column = output.column }
 
-table_for : List ℕ → List ℕ → FilesRead → List checked.Output → AppendTable
+abbrev table_for : List ℕ → List ℕ → FilesRead → List checked.Output → AppendTable
 table_for name text files given = record { name = name; text = text; folder = files.dir; shape = files.shape; outputs = map output_over given }
 
 exprs_over : (given : List checked.Output) → outputs.exprs_of given ≡ map expr_of (map output_over given)
@@ -75,7 +90,7 @@ dataset_for : (name text : List ℕ) (files : FilesRead) (given : List checked.O
 dataset_for name text files given = rw (exprs_over given, columns_over given) refl
 
 -- a plan of what is given is one of a table
-HasTable : Result Dataset CheckFault → Type 0
+abbrev HasTable : Result Dataset CheckFault → Type 0
 HasTable given = (dataset : Dataset) → given ≡ Ok dataset → (table : AppendTable) × (dataset ≡ dataset_of table)
 
 given_table : (text : List ℕ) (form : Form) (files : FilesRead) (broken : Option CheckFault) → HasTable (over_outputs text form files (unless broken (outputs.outputs_of files.shape.columns form.outs)))
@@ -98,7 +113,7 @@ judged_table : (text : List ℕ) (form : Option Form) (table : Result Dataset Ch
 judged_table text None table f dataset is = absurd (cc (sym is ∙ f))
 judged_table text (Some form) table f dataset is = behind_table text form (first_break (declared_checks form.declared)) table f dataset is
 
-PlanHasTable : List Dataset → Type 0
+abbrev PlanHasTable : List Dataset → Type 0
 PlanHasTable plan = (asked : Option AppendTable) × (plan ≡ plan_of asked)
 
 one_table : (text : List ℕ) (form : Option Form) (table : Result Dataset CheckFault) (plan : List Dataset) → Judged text form table → Ok plan ≡ as_plan table → PlanHasTable plan
@@ -158,9 +173,13 @@ kind_found wanted (Some column) = same_kinds wanted column.kind
 
 column_found : (source : List Column) (output : Output) (held : Kind) → kind_over (kinds_of source) (expr_of output) ≡ Some held → is_column_of source output ≡ true
 column_found source output held is =
-    sym (kind_found output.column.kind (slice_get source output.place))
-    ∙ ap (is_kind output.column.kind) (sym (slice_get-map (λ (column : Column). column.kind) source output.place))
-    ∙ guarded (is_kind output.column.kind (slice_get (kinds_of source) output.place)) (rows.kind_in (rows.sort_of (expr_of output))) held is
+    let wanted = output.column.kind in
+    let within : reads_within (kinds_of source) (expr_of output) ≡ is_kind wanted (slice_get (kinds_of source) output.place) =
+    ap (reads_within (kinds_of source)) (sym (rolls-Column output.place wanted)) ∙ fold-roll-Expr Bool Bool (reads_at (kinds_of source)) arm_reads_at (form.Column output.place wanted) in
+    let reads : reads_within (kinds_of source) (expr_of output) ≡ true = guarded (reads_within (kinds_of source) (expr_of output)) (rows.kind_in (rows.sort_of (expr_of output))) held is in
+    sym (kind_found wanted (slice_get source output.place))
+    ∙ ap (is_kind wanted) (sym (slice_get-map (λ (column : Column). column.kind) source output.place))
+    ∙ (sym within ∙ reads)
 
 columns_found : (source : List Column) (given : List Output) (all : List Kind) → kinds_over (kinds_of source) (map expr_of given) ≡ Some all → list_all (is_column_of source) given ≡ true
 columns_found source [] all is = refl
@@ -211,3 +230,14 @@ pub checked_updatable : (statements : List Statement) (plan : List Dataset) → 
 checked_updatable statements plan f sound keeps =
     let has = comes_table statements plan f.comes in
     record { asked = has.0; is = has.1; sound = asked_sound plan has.0 has.1 sound keeps }
+
+-- ---- a loop over expressions and columns
+
+none_left : (columns : List Column) → outputs_of [] columns ≡ []
+none_left [] = refl
+none_left (first ∷ more) = refl
+
+pub all_given : (exprs : List Expr) (left columns : List Column) (outputs : List Output) (i : ℕ) → length exprs ≤ i → outputs ++ outputs_of (drop i exprs) left ≡ outputs_of exprs columns → outputs ≡ outputs_of exprs columns
+all_given exprs left columns outputs i past keeps =
+    let rest : outputs_of (drop i exprs) left ≡ [] = ap (λ (behind : List Expr). outputs_of behind left) (drop_all i exprs past) ∙ none_left left in
+    sym (append-nil outputs) ∙ ap (λ (behind : List Output). outputs ++ behind) (sym rest) ∙ keeps

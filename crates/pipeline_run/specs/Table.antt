@@ -1,6 +1,5 @@
 -- The table of a plan.
 use Rattle.std.specs.Prelude.{◌≡◌, ℕ, List, [], ◌∷◌, map, Option, Some, None, option_map, IsTrue, Ok}
-use Rattle.std.specs.List.{zip}
 use Rattle.value_core.specs.declared.schema.Column.{Column}
 use Rattle.row_expr.specs.declared.expr.Expr.{Expr, fold-Expr}
 use Rattle.row_expr.specs.declared.expr.Expr.TheOpen.{Expr-F}
@@ -64,12 +63,14 @@ place_at other = 0
 abbrev pub place_of : Expr → ℕ
 place_of = fold-Expr ℕ ℕ place_at (λ arm. 0)
 
--- the output of an expression, and its column
-abbrev pub output_of : Expr × Column → Output
-output_of pair = record { place = place_of pair.0; column = pair.1 }
+abbrev pub output_of : Expr → Column → Output
+output_of e column = record { place = place_of e; column = column }
 
+-- the outputs of expressions, each with its column
 abbrev pub outputs_of : List Expr → List Column → List Output
-outputs_of exprs columns = map output_of (zip exprs columns)
+outputs_of exprs [] = []
+outputs_of [] columns = []
+outputs_of (e ∷ exprs) (column ∷ columns) = output_of e column ∷ outputs_of exprs columns
 
 abbrev pub table_over : Dataset → AppendFlow → Origin → Option AppendTable
 table_over dataset flow (Files dir shape) =

@@ -18,17 +18,22 @@ fn place_of(expr: &Expr) -> usize
     }
 }
 
-/// The outputs of expressions, and their columns.
+/// The outputs of expressions, each with its column.
 fn outputs_of(alloc: Global, exprs: &[Expr], columns: &[Column]) -> Result<Outputs, AllocError>
     ensures { IfOk result (λ outputs. outputs ≡ spec.outputs_of exprs.now columns.now) }
 {
     let mut outputs = ListOf::new(alloc);
-    for (expr, column) in exprs.iter().zip(columns.iter()) {
+    let mut left = columns;
+    for expr in exprs {
+        let Some((column, more)) = left.split_first() else {
+            return Ok(outputs);
+        };
         let column = column.copy(alloc)?;
         outputs.push(Output {
             place: place_of(expr),
             column,
         })?;
+        left = more;
     }
     Ok(outputs)
 }
