@@ -1,5 +1,5 @@
 -- A plan and its table.
-use Rattle.std.proofs.Common.{◌≡◌, ℕ, List, [], ◌∷◌, ◌++◌, ◌≤◌, length, drop, append-nil, ◌==◌, map, Bool, true, false, ◌&&◌, ◌||◌, not, if◌then◌else◌, slice_get, Option, Some, None, option_map, Result, Ok, Err, IsTrue, All, refl, sym, ap, subst, ◌∙◌}
+use Rattle.std.proofs.Common.{◌≡◌, ℕ, List, [], ◌∷◌, ◌++◌, ◌≤◌, length, drop, append-nil, ◌==◌, map, Bool, true, false, ◌&&◌, ◌||◌, not, if◌then◌else◌, slice_get, Option, Some, None, option_map, Result, Ok, Err, IfOk, IsTrue, All, refl, sym, ap, subst, ◌∙◌}
 use Rattle.std.specs.List.{list_all}
 use Rattle.std.proofs.lemmas.List.{drop_all}
 use Rattle.std.proofs.lemmas.List.Elements.{All-head}
@@ -230,6 +230,11 @@ pub checked_updatable : (statements : List Statement) (plan : List Dataset) → 
 checked_updatable statements plan f sound keeps =
     let has = comes_table statements plan f.comes in
     record { asked = has.0; is = has.1; sound = asked_sound plan has.0 has.1 sound keeps }
+
+pub updatable_if : {E : Type 0} (statements : List Statement) (result : Result (List Dataset) E) → IfOk result (λ plan. Checked statements (Ok plan)) → IfOk result (λ plan. IsSoundPlan plan)
+    → ((plan : List Dataset) → Checked statements (Ok plan) → All KeepsText plan) → IfOk result (λ plan. IsUpdatable plan)
+updatable_if statements (Err e) checks sound keeps = tt
+updatable_if statements (Ok plan) checks sound keeps = checked_updatable statements plan checks sound (keeps plan checks)
 
 -- ---- a loop over expressions and columns
 
