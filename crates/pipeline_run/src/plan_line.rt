@@ -1,6 +1,5 @@
 // What is printed of a plan.
-ghost use Rattle.std.specs.Prelude.{◌≡◌, ◌++◌, codes, IfOk, OnOk};
-ghost use Rattle.std.specs.Fmt.{decimal};
+ghost use Rattle.std.specs.Prelude.{◌≡◌, ◌++◌, IfOk, OnOk};
 ghost use Rattle.pipeline_run.specs.PlanLines.{body_words as the_body_words, column_text, columns_text, dataset_line, kind_word as the_kind_word, more_columns, plan_lines as the_plan_lines};
 
 use crate::escape::{put, put_escaped};
