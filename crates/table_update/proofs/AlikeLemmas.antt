@@ -1,5 +1,5 @@
 -- Files that a store takes for the same, and updates that have nothing to refuse.
-use Rattle.std.proofs.Common.{◌≡◌, ◌≢◌, ◌⊎◌, inl, inr, ℕ, ◌+◌, ◌^◌, ◌≤◌, List, [], ◌∷◌, length, sym, ap, subst, ◌∙◌, Bool, true, false}
+use Rattle.std.proofs.Common.{◌≡◌, ◌≢◌, ◌⊎◌, inl, inr, ℕ, ◌+◌, ◌^◌, ◌≤◌, List, [], ◌∷◌, length, sym, ap, subst, ◌∙◌, Bool, true, false, Option, Some, None}
 use Rattle.commit_gate.specs.Log.{HasBodies, IsLive}
 use Rattle.value_core.specs.declared.cursor.FilePlace.{FilePlace}
 use Rattle.landing_core.specs.declared.landing.LandingFile.{LandingFile}
@@ -12,11 +12,11 @@ use Rattle.table_update.specs.Crash.{HasThem}
 use Rattle.table_update.specs.declared.end.UpdateEnd.{UpdateEnd}
 use Rattle.table_update.specs.declared.end.UpdateEnd.TheVariants.{Current, Completed}
 use Rattle.table_update.specs.declared.table.AppendTable.{AppendTable}
-use Rattle.table_update.specs.Ends.{Alike, IsOwn, MayFlow, NothingRefused}
+use Rattle.table_update.specs.Ends.{Alike, IsOwn, MayFlow, MayUpdate, NothingRefused}
 use Rattle.table_update.specs.Flow.{batch, behind, HasRoom}
 use Rattle.table_update.specs.Table.{define, HoldsTable, IsDefinedBy}
-use Rattle.table_update.specs.Update.{Found, LoadEnds, MayRun, Flows, Runs, LoadedEnds, Updates, IsSuccess, end_after}
-use Rattle.table_update.proofs.EndLemmas.{HasOneState, FlowForm, HasShrunk, HasNone, LacksVersion, IsTooLong, Takes, IsOfFlow, small_enough, apart, listed_none, one_dataset, one_reading, flow_there, flow_of_end, loaded_there, not_both_loaded, judged_of, not_judged, define_ends, nothing_defined}
+use Rattle.table_update.specs.Update.{Found, LoadEnds, MayRun, NoTableEnds, Flows, Runs, LoadedEnds, Updates, IsSuccess, end_after}
+use Rattle.table_update.proofs.EndLemmas.{HasOneState, FlowForm, HasShrunk, HasNone, LacksVersion, IsTooLong, Takes, IsOfFlow, small_enough, apart, listed_none, one_dataset, one_reading, flow_there, flow_of_end, loaded_there, not_both_loaded, judged_of, not_judged, define_ends, nothing_defined, end_without, is_without}
 
 -- ---- files that are taken for the same
 
@@ -43,11 +43,11 @@ loads_well found Current ends success = ends
 loads_well found (Completed read version) ends success = ends
 loads_well found end ends success = success
 
-pub settled_alike : HasLife → (table : AppendTable) (found : Found) (loaded : Bool) (acked tried : List Payload) (end : UpdateEnd) (image other : List ℕ)
-    → length found.bytes ≤ 2 ^ 40 → Updates table found loaded acked tried end → IsSuccess end → HasThem found.bytes tried image → HasThem found.bytes tried other
+pub settled_alike : HasLife → (plan : Option AppendTable) (found : Found) (loaded : Bool) (acked tried : List Payload) (end : UpdateEnd) (image other : List ℕ)
+    → length found.bytes ≤ 2 ^ 40 → Updates plan found loaded acked tried end → IsSuccess end → HasThem found.bytes tried image → HasThem found.bytes tried other
     → ((at : ℕ) → EndsAt at found.bytes → IsLogEnd (end_after at tried) image) → ((at : ℕ) → EndsAt at found.bytes → IsLogEnd (end_after at tried) other) → Alike image other
-settled_alike lives table found false acked tried end image other small updates success is also ends goes = absurd (loads_well found end updates.0 success)
-settled_alike lives table found true acked tried end image other small (state, at, loaded, more) success is also ends goes =
+settled_alike lives plan found false acked tried end image other small updates success is also ends goes = absurd (loads_well found end updates.0 success)
+settled_alike lives plan found true acked tried end image other small (state, at, loaded, more) success is also ends goes =
     alike_logs lives (state_from state tried) (end_after at tried) image other (is state loaded.is) (also state loaded.is) (ends at loaded.ends) (goes at loaded.ends)
 
 pub settled_alike_too : HasLife → (bytes also image other : List ℕ) (tried : List Payload) → Alike bytes also → HasThem bytes tried image → HasThem also tried other
@@ -97,19 +97,28 @@ run_succeeds table files room at state acked tried end (inr later) own (inl p) =
 run_succeeds table files room at state acked tried end (inr later) own (inr (inl p)) = absurd (later.0 (ap definitions_of p.0))
 run_succeeds table files room at state acked tried end (inr later) own (inr (inr p)) = flow_succeeds table files room at state [] acked tried end later.1 own p.1
 
-loaded_succeeds : (table : AppendTable) (files : List LandingFile) (room at : ℕ) (state : State) (acked tried : List Payload) (end : UpdateEnd) → MayGoOn table files room at state → IsOwn end
-    → LoadedEnds table files room state at acked tried end → IsSuccess end
-loaded_succeeds table files room at state acked tried end may own (inl p) =
+table_succeeds : (table : AppendTable) (files : List LandingFile) (room at : ℕ) (state : State) (acked tried : List Payload) (end : UpdateEnd) → MayGoOn table files room at state → IsOwn end
+    → LoadedEnds (Some table) files room state at acked tried end → IsSuccess end
+table_succeeds table files room at state acked tried end may own (inl p) =
     let judged = judged_of table state end own p.0 in
     absurd (not_judged table state judged.0 end (may_run table files room at state may) judged.1)
-loaded_succeeds table files room at state acked tried end may own (inr p) = run_succeeds table files room at state acked tried end may own p
+table_succeeds table files room at state acked tried end may own (inr p) = run_succeeds table files room at state acked tried end may own p
 
-pub update_succeeds : HasOneState → (table : AppendTable) (found : Found) (loaded : Bool) (acked tried : List Payload) (end : UpdateEnd)
-    → length found.bytes ≤ 2 ^ 40 → Updates table found loaded acked tried end → IsOwn end → NothingRefused table found → IsSuccess end
-update_succeeds law table found false acked tried end small p own none =
+-- without a table an empty store is current
+without_succeeds : (state : State) (end : UpdateEnd) → state ≡ [] → IsOwn end → NoTableEnds state end → IsSuccess end
+without_succeeds state end none own ends = subst IsSuccess (sym (is_without state end own ends ∙ ap (λ (s : State). end_without (definitions_of s)) none)) tt
+
+loaded_succeeds : (plan : Option AppendTable) (found : Found) (at : ℕ) (state : State) (acked tried : List Payload) (end : UpdateEnd) → MayUpdate plan found state at → IsOwn end
+    → LoadedEnds plan found.landing found.room state at acked tried end → IsSuccess end
+loaded_succeeds None found at state acked tried end may own ends = without_succeeds state end may own ends.0
+loaded_succeeds (Some table) found at state acked tried end may own ends = table_succeeds table found.landing found.room at state acked tried end may own ends
+
+pub update_succeeds : HasOneState → (plan : Option AppendTable) (found : Found) (loaded : Bool) (acked tried : List Payload) (end : UpdateEnd)
+    → length found.bytes ≤ 2 ^ 40 → Updates plan found loaded acked tried end → IsOwn end → NothingRefused plan found → IsSuccess end
+update_succeeds law plan found false acked tried end small p own none =
     absurd (not_both_loaded law found none.state none.at end (small_enough (length found.bytes) small) none.loaded own p.0)
-update_succeeds law table found true acked tried end small (state, at, loaded, ends) own none =
+update_succeeds law plan found true acked tried end small (state, at, loaded, ends) own none =
     let short = small_enough (length found.bytes) small in
-    loaded_succeeds table found.landing found.room none.at none.state acked tried end none.flows own
-    (loaded_there table found.landing found.room none.at at none.state state acked tried end (law.one found.bytes state none.state short loaded.is none.loaded.is)
+    loaded_succeeds plan found none.at none.state acked tried end none.may_update own
+    (loaded_there plan found.landing found.room none.at at none.state state acked tried end (law.one found.bytes state none.state short loaded.is none.loaded.is)
     (law.one_end found.bytes at none.at short loaded.ends none.loaded.ends) ends)

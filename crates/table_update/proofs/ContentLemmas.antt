@@ -5,7 +5,6 @@ use Rattle.std.proofs.lemmas.List.Concat.{flat_map_single}
 use Rattle.std.proofs.lemmas.List.Sums.{sum_by-append}
 use Rattle.value_core.specs.declared.change.Change.{Change}
 use Rattle.value_core.specs.declared.cursor.FilePlace.{FilePlace}
-use Rattle.value_core.specs.declared.shape.Shape.{Shape}
 use Rattle.value_core.specs.Bags.{SameBag, changed, count_of, in_row_order}
 use Rattle.value_core.specs.Order.{Row, same_row}
 use Rattle.value_core.proofs.BagLemmas.{count-in_row_order}
@@ -29,11 +28,11 @@ count_both : (row : Row) (xs ys : List Row) → count_of row (xs ++ ys) ≡ coun
 count_both row xs ys = sum_by-append (λ x. cond (same_row row x) 1 0) xs ys
 
 -- lines in another order give one bag of rows
-pub rows_bag : (shape : Shape) (lines others : List LandedLine) → IsPermutation lines others → SameBag (rows_of shape lines) (rows_of shape others)
-rows_bag shape lines others moved row =
-    ap (count_of row) (sym (flat_map_single (row_of_line shape) lines))
-    ∙ one_bag (λ line. row_of_line shape line ∷ []) lines others moved row
-    ∙ ap (count_of row) (flat_map_single (row_of_line shape) others)
+pub rows_bag : (table : AppendTable) (lines others : List LandedLine) → IsPermutation lines others → SameBag (rows_of table lines) (rows_of table others)
+rows_bag table lines others moved row =
+    ap (count_of row) (sym (flat_map_single (row_of_line table) lines))
+    ∙ one_bag (λ line. row_of_line table line ∷ []) lines others moved row
+    ∙ ap (count_of row) (flat_map_single (row_of_line table) others)
 
 -- the lines of a table's folder up to these places
 abbrev pub taken_by : AppendTable → List LandingFile → List FilePlace → List LandedLine
@@ -43,15 +42,15 @@ taken_by table ever places = taken table.shape.format table.shape.header table.f
 pub content_more : (table : AppendTable) (ever : List LandingFile) (dataset : Dataset) (places reached : List FilePlace) (lines : List LandedLine)
     → SameBag (content dataset) (rows_up_to table ever places)
     → IsPermutation (taken_by table ever places ++ lines) (taken_by table ever reached)
-    → SameBag (rows_after dataset.rows (dataset.changes ++ addition (in_row_order (rows_of table.shape lines)) ∷ [])) (rows_up_to table ever reached)
+    → SameBag (rows_after dataset.rows (dataset.changes ++ addition (in_row_order (rows_of table lines)) ∷ [])) (rows_up_to table ever reached)
 content_more table ever dataset places reached lines held moved row =
-    let before = rows_of table.shape (taken_by table ever places) in
-    let new = rows_of table.shape lines in
+    let before = rows_of table (taken_by table ever places) in
+    let new = rows_of table lines in
     let sorted = in_row_order new in
     ap (count_of row) (rows_more dataset.rows dataset.changes (addition sorted))
     ∙ count-in_row_order row (content dataset ++ sorted)
     ∙ count_both row (content dataset) sorted
     ∙ (λ i. held row i + count-in_row_order row new i)
     ∙ sym (count_both row before new)
-    ∙ ap (count_of row) (sym (map-append (row_of_line table.shape) (taken_by table ever places) lines))
-    ∙ rows_bag table.shape (taken_by table ever places ++ lines) (taken_by table ever reached) moved row
+    ∙ ap (count_of row) (sym (map-append (row_of_line table) (taken_by table ever places) lines))
+    ∙ rows_bag table (taken_by table ever places ++ lines) (taken_by table ever reached) moved row

@@ -18,7 +18,7 @@ use Rattle.table_update.specs.declared.table.AppendTable.{AppendTable}
 use Rattle.table_update.specs.Ends.{Alike, IsOwn}
 use Rattle.table_update.specs.Flow.{batch, behind, lines, reach, shrunk, HasNews, HasVersion, MayTake, FlowEnds}
 use Rattle.table_update.specs.Table.{define, definition_of, HoldsTable, IsDefinedBy}
-use Rattle.table_update.specs.Update.{Found, Loaded, LoadEnds, is_kept, first_other_in, first_other, MayRun, JudgeEnds, DefineEnds, Flows, Runs, LoadedEnds, Updates}
+use Rattle.table_update.specs.Update.{Found, Loaded, LoadEnds, is_kept, first_other_in, first_other, MayRun, JudgeEnds, NoTableEnds, DefineEnds, Flows, Runs, LoadedEnds, Updates}
 
 -- a file has one state, ends at one place, and is refused for one cause
 pub record HasOneState : Type 0 where
@@ -299,66 +299,83 @@ judged_runs table files room at state acked tried end other own ends runs =
     let judged = judged_of table state end own ends in
     not_judged table state judged.0 end (runs_may table files room at state acked tried other runs) judged.1
 
-one_loaded_end : (table : AppendTable) (files : List LandingFile) (room at : ℕ) (state : State) (acked tried also_acked also_tried : List Payload) (end other : UpdateEnd) → IsOwn end → IsOwn other
-    → LoadedEnds table files room state at acked tried end → LoadedEnds table files room state at also_acked also_tried other → SameEnd end other tried also_tried
-one_loaded_end table files room at state acked tried also_acked also_tried end other own too (inl p) (inl q) =
+one_table_end : (table : AppendTable) (files : List LandingFile) (room at : ℕ) (state : State) (acked tried also_acked also_tried : List Payload) (end other : UpdateEnd) → IsOwn end → IsOwn other
+    → LoadedEnds (Some table) files room state at acked tried end → LoadedEnds (Some table) files room state at also_acked also_tried other → SameEnd end other tried also_tried
+one_table_end table files room at state acked tried also_acked also_tried end other own too (inl p) (inl q) =
     let one = judged_of table state end own p.0 in
     let two = judged_of table state other too q.0 in
     (one_judged table state one.0 two.0 end other one.1 two.1, p.2 ∙ sym q.2)
-one_loaded_end table files room at state acked tried also_acked also_tried end other own too (inl p) (inr q) =
+one_table_end table files room at state acked tried also_acked also_tried end other own too (inl p) (inr q) =
     absurd (judged_runs table files room at state also_acked also_tried end other own p.0 q)
-one_loaded_end table files room at state acked tried also_acked also_tried end other own too (inr p) (inl q) =
+one_table_end table files room at state acked tried also_acked also_tried end other own too (inr p) (inl q) =
     absurd (judged_runs table files room at state acked tried other end too q.0 p)
-one_loaded_end table files room at state acked tried also_acked also_tried end other own too (inr p) (inr q) =
+one_table_end table files room at state acked tried also_acked also_tried end other own too (inr p) (inr q) =
     one_run table files room at state acked tried also_acked also_tried end other own too p q
 
-pub loaded_there : (table : AppendTable) (files : List LandingFile) (room at place : ℕ) (state now : State) (acked tried : List Payload) (end : UpdateEnd) → now ≡ state → place ≡ at
-    → LoadedEnds table files room now place acked tried end → LoadedEnds table files room state at acked tried end
-loaded_there table files room at place state now acked tried end same goes ends =
-    subst (λ (n : ℕ). LoadedEnds table files room state n acked tried end) goes (subst (λ (s : State). LoadedEnds table files room s place acked tried end) same ends)
+-- ---- without a table
+
+abbrev pub end_without : List Definition → UpdateEnd
+end_without [] = Current
+end_without (first ∷ more) = Removed first.name
+
+pub is_without : (state : State) (end : UpdateEnd) → IsOwn end → NoTableEnds state end → end ≡ end_without (definitions_of state)
+is_without state (Removed name) own (first, more, are, is) = ap Removed is ∙ sym (ap end_without are)
+is_without state Current own none = sym (ap (λ (s : State). end_without (definitions_of s)) none)
+is_without state Memory own ends = absurd own
+is_without state end own ends = absurd ends
+
+one_loaded_end : (plan : Option AppendTable) (files : List LandingFile) (room at : ℕ) (state : State) (acked tried also_acked also_tried : List Payload) (end other : UpdateEnd) → IsOwn end → IsOwn other
+    → LoadedEnds plan files room state at acked tried end → LoadedEnds plan files room state at also_acked also_tried other → SameEnd end other tried also_tried
+one_loaded_end None files room at state acked tried also_acked also_tried end other own too p q = (is_without state end own p.0 ∙ sym (is_without state other too q.0), p.2 ∙ sym q.2)
+one_loaded_end (Some table) files room at state acked tried also_acked also_tried end other own too p q = one_table_end table files room at state acked tried also_acked also_tried end other own too p q
+
+pub loaded_there : (plan : Option AppendTable) (files : List LandingFile) (room at place : ℕ) (state now : State) (acked tried : List Payload) (end : UpdateEnd) → now ≡ state → place ≡ at
+    → LoadedEnds plan files room now place acked tried end → LoadedEnds plan files room state at acked tried end
+loaded_there plan files room at place state now acked tried end same goes ends =
+    subst (λ (n : ℕ). LoadedEnds plan files room state n acked tried end) goes (subst (λ (s : State). LoadedEnds plan files room s place acked tried end) same ends)
 
 -- ---- the update
 
-pub one_update_end : HasOneState → (table : AppendTable) (found : Found) (loaded also_loaded : Bool) (acked tried also_acked also_tried : List Payload) (end other : UpdateEnd)
-    → length found.bytes ≤ 2 ^ 40 → Updates table found loaded acked tried end → Updates table found also_loaded also_acked also_tried other → IsOwn end → IsOwn other → (end ≡ other) × (tried ≡ also_tried)
-one_update_end law table found false false acked tried also_acked also_tried end other small p q own too =
+pub one_update_end : HasOneState → (plan : Option AppendTable) (found : Found) (loaded also_loaded : Bool) (acked tried also_acked also_tried : List Payload) (end other : UpdateEnd)
+    → length found.bytes ≤ 2 ^ 40 → Updates plan found loaded acked tried end → Updates plan found also_loaded also_acked also_tried other → IsOwn end → IsOwn other → (end ≡ other) × (tried ≡ also_tried)
+one_update_end law plan found false false acked tried also_acked also_tried end other small p q own too =
     let one = refusal_of found end own p.0 in
     let two = refusal_of found other too q.0 in
     (one_refusal law found one.0 two.0 end other (small_enough (length found.bytes) small) one.1 two.1, p.2 ∙ sym q.2)
-one_update_end law table found false true acked tried also_acked also_tried end other small p (state, at, loaded, ends) own too =
+one_update_end law plan found false true acked tried also_acked also_tried end other small p (state, at, loaded, ends) own too =
     absurd (not_both_loaded law found state at end (small_enough (length found.bytes) small) loaded own p.0)
-one_update_end law table found true false acked tried also_acked also_tried end other small (state, at, loaded, ends) q own too =
+one_update_end law plan found true false acked tried also_acked also_tried end other small (state, at, loaded, ends) q own too =
     absurd (not_both_loaded law found state at other (small_enough (length found.bytes) small) loaded too q.0)
-one_update_end law table found true true acked tried also_acked also_tried end other small (state, at, loaded, ends) (now, place, also_is, more) own too =
+one_update_end law plan found true true acked tried also_acked also_tried end other small (state, at, loaded, ends) (now, place, also_is, more) own too =
     let short = small_enough (length found.bytes) small in
-    one_loaded_end table found.landing found.room at state acked tried also_acked also_tried end other own too ends
-    (loaded_there table found.landing found.room at place state now also_acked also_tried other (law.one found.bytes now state short also_is.is loaded.is)
+    one_loaded_end plan found.landing found.room at state acked tried also_acked also_tried end other own too ends
+    (loaded_there plan found.landing found.room at place state now also_acked also_tried other (law.one found.bytes now state short also_is.is loaded.is)
     (law.one_end found.bytes place at short also_is.ends loaded.ends) more)
 
 -- the same of a store that is taken for another
-ends_alike : HasOneState → (table : AppendTable) (found : Found) (state : State) (at : ℕ) (acked tried : List Payload) (end : UpdateEnd) → length found.bytes < 2 ^ 64 → HasState found.bytes state → EndsAt at found.bytes
-    → (now : State) (place : ℕ) → Loaded found now place → LoadedEnds table found.landing found.room now place acked tried end → LoadedEnds table found.landing found.room state at acked tried end
-ends_alike law table found state at acked tried end short is goes now place loaded ends =
-    loaded_there table found.landing found.room at place state now acked tried end (law.one found.bytes now state short loaded.is is) (law.one_end found.bytes place at short loaded.ends goes) ends
+ends_alike : HasOneState → (plan : Option AppendTable) (found : Found) (state : State) (at : ℕ) (acked tried : List Payload) (end : UpdateEnd) → length found.bytes < 2 ^ 64 → HasState found.bytes state → EndsAt at found.bytes
+    → (now : State) (place : ℕ) → Loaded found now place → LoadedEnds plan found.landing found.room now place acked tried end → LoadedEnds plan found.landing found.room state at acked tried end
+ends_alike law plan found state at acked tried end short is goes now place loaded ends =
+    loaded_there plan found.landing found.room at place state now acked tried end (law.one found.bytes now state short loaded.is is) (law.one_end found.bytes place at short loaded.ends goes) ends
 
-around_there : (table : AppendTable) (files more : List LandingFile) (room limit : ℕ) (state : State) (at : ℕ) (acked tried : List Payload) (end : UpdateEnd) → limit ≡ room → more ≡ files
-    → LoadedEnds table more limit state at acked tried end → LoadedEnds table files room state at acked tried end
-around_there table files more room limit state at acked tried end same there ends =
-    subst (λ (f : List LandingFile). LoadedEnds table f room state at acked tried end) there (subst (λ (n : ℕ). LoadedEnds table more n state at acked tried end) same ends)
+around_there : (plan : Option AppendTable) (files more : List LandingFile) (room limit : ℕ) (state : State) (at : ℕ) (acked tried : List Payload) (end : UpdateEnd) → limit ≡ room → more ≡ files
+    → LoadedEnds plan more limit state at acked tried end → LoadedEnds plan files room state at acked tried end
+around_there plan files more room limit state at acked tried end same there ends =
+    subst (λ (f : List LandingFile). LoadedEnds plan f room state at acked tried end) there (subst (λ (n : ℕ). LoadedEnds plan more n state at acked tried end) same ends)
 
-pub alike_updates : HasOneState → (table : AppendTable) (found also : Found) (loaded also_loaded : Bool) (acked tried also_acked also_tried : List Payload) (end other : UpdateEnd)
+pub alike_updates : HasOneState → (plan : Option AppendTable) (found also : Found) (loaded also_loaded : Bool) (acked tried also_acked also_tried : List Payload) (end other : UpdateEnd)
     → length found.bytes ≤ 2 ^ 40 → length also.bytes ≤ 2 ^ 40 → Alike found.bytes also.bytes → also.room ≡ found.room → also.landing ≡ found.landing
-    → Updates table found loaded acked tried end → Updates table also also_loaded also_acked also_tried other → IsOwn end → IsOwn other → (end ≡ other) × (tried ≡ also_tried)
-alike_updates law table found also false false acked tried also_acked also_tried end other small too_small alike room landing p q own too =
+    → Updates plan found loaded acked tried end → Updates plan also also_loaded also_acked also_tried other → IsOwn end → IsOwn other → (end ≡ other) × (tried ≡ also_tried)
+alike_updates law plan found also false false acked tried also_acked also_tried end other small too_small alike room landing p q own too =
     let one = lacks_room law found alike.state end (small_enough (length found.bytes) small) alike.is own p.0 in
     let two = lacks_room law also alike.state other (small_enough (length also.bytes) too_small) alike.other_is too q.0 in
     (one.2 ∙ ap (Full 18) (sym room) ∙ sym two.2, p.2 ∙ sym q.2)
-alike_updates law table found also false true acked tried also_acked also_tried end other small too_small alike room landing p (state, at, loaded, ends) own too =
+alike_updates law plan found also false true acked tried also_acked also_tried end other small too_small alike room landing p (state, at, loaded, ends) own too =
     absurd (not_lacking found also state at end alike.begun.0 room loaded (lacks_room law found alike.state end (small_enough (length found.bytes) small) alike.is own p.0))
-alike_updates law table found also true false acked tried also_acked also_tried end other small too_small alike room landing (state, at, loaded, ends) q own too =
+alike_updates law plan found also true false acked tried also_acked also_tried end other small too_small alike room landing (state, at, loaded, ends) q own too =
     absurd (not_lacking also found state at other alike.begun.1 (sym room) loaded (lacks_room law also alike.state other (small_enough (length also.bytes) too_small) alike.other_is too q.0))
-alike_updates law table found also true true acked tried also_acked also_tried end other small too_small alike room landing (state, at, loaded, ends) (now, place, also_is, more) own too =
-    one_loaded_end table found.landing found.room alike.at alike.state acked tried also_acked also_tried end other own too
-    (ends_alike law table found alike.state alike.at acked tried end (small_enough (length found.bytes) small) alike.is alike.ends state at loaded ends)
-    (around_there table found.landing also.landing found.room also.room alike.state alike.at also_acked also_tried other room landing
-    (ends_alike law table also alike.state alike.at also_acked also_tried other (small_enough (length also.bytes) too_small) alike.other_is alike.other_ends now place also_is more))
+alike_updates law plan found also true true acked tried also_acked also_tried end other small too_small alike room landing (state, at, loaded, ends) (now, place, also_is, more) own too =
+    one_loaded_end plan found.landing found.room alike.at alike.state acked tried also_acked also_tried end other own too
+    (ends_alike law plan found alike.state alike.at acked tried end (small_enough (length found.bytes) small) alike.is alike.ends state at loaded ends)
+    (around_there plan found.landing also.landing found.room also.room alike.state alike.at also_acked also_tried other room landing
+    (ends_alike law plan also alike.state alike.at also_acked also_tried other (small_enough (length also.bytes) too_small) alike.other_is alike.other_ends now place also_is more))

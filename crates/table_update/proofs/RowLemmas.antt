@@ -1,8 +1,9 @@
 -- Rows in row order.
-use Rattle.std.proofs.Common.{◌≡◌, ℕ, suc, ◌+◌, ◌<◌, true, false, cond, List, [], ◌∷◌, ◌++◌, length, drop, get_or, append_assoc, refl, sym, ap, ◌∙◌, subst, arith}
+use Rattle.std.proofs.Common.{◌≡◌, ℕ, zero, suc, ◌+◌, ◌<◌, true, false, cond, List, [], ◌∷◌, ◌++◌, length, drop, get_or, append_assoc, refl, sym, ap, ◌∙◌, subst, arith}
 use Rattle.std.specs.declared.cmp.Ordering.{Ordering}
 use Rattle.std.specs.declared.cmp.Ordering.TheVariants.{Less, Equal, Greater}
-use Rattle.std.specs.Prelude.{slice_index_or}
+use Rattle.std.specs.Prelude.{slice_get, slice_index_or}
+use Rattle.std.specs.List.{list_all}
 use Rattle.std.specs.Ordering.{is_gt, is_lt, ordering_reverse}
 use Rattle.std.specs.List.Sorted.{IsSorted, IsPermutation}
 use Rattle.std.proofs.lemmas.Bool.{and_from, and_parts}
@@ -10,16 +11,21 @@ use Rattle.std.proofs.lemmas.List.{drop_more}
 use Rattle.std.proofs.lemmas.List.Sorted.{All-permutation, sum_by-IsPermutation}
 use Rattle.std.proofs.lemmas.List.Sums.{AllPass-from_list_all, list_all-from_AllPass}
 use Rattle.value_core.specs.declared.schema.Column.{Column}
+use Rattle.value_core.specs.declared.value.Kind.{Kind}
+use Rattle.value_core.specs.declared.value.Kind.TheVariants as kind
+use Rattle.value_core.specs.declared.value.Value.TheVariants.{Null}
+use Rattle.value_core.specs.Fits.{value_fits}
 use Rattle.value_core.specs.Bags.{IsInOrder, SameBag, in_row_order}
 use Rattle.value_core.specs.Order.{Row, row_order, same_row}
 use Rattle.value_core.specs.OrderLaws.{row_order_total}
 use Rattle.value_core.proofs.BagLemmas.{count-in_row_order, least-below, one_order, order-in_row_order}
-use Rattle.value_core.specs.declared.shape.Shape.{Shape}
 use Rattle.landing_core.specs.declared.lines.FreshLine.{FreshLine}
 use Rattle.landing_history.specs.Taken.{with_heads}
 use Rattle.line_rows.specs.Lines.{row_of}
 use Rattle.store_state.specs.Follows.{all_fit, is_row_of}
-use Rattle.table_update.specs.Table.{head_given, rows_of}
+use Rattle.table_update.specs.declared.table.AppendTable.{AppendTable}
+use Rattle.table_update.specs.declared.table.Output.{Output}
+use Rattle.table_update.specs.Table.{columns_of, head_given, is_column_of, is_of_kind, rows_of, same_kind, selected}
 
 -- ---- a sort leaves the rows in row order
 
@@ -64,15 +70,50 @@ more_fit columns (first ∷ rows) row fit is =
     let both = and_parts (is_row_of columns first) (all_fit columns rows) fit in
     and_from (is_row_of columns first) (all_fit columns (rows ++ row ∷ [])) both.0 (more_fit columns rows row both.1 is)
 
+-- ---- what outputs take of a row fits their columns
+
+same_kinds : (a b : Kind) → same_kind a b ≡ true → a ≡ b
+same_kinds kind.Bool kind.Bool same = refl
+same_kinds kind.Int kind.Int same = refl
+same_kinds kind.Big kind.Big same = refl
+same_kinds kind.Str kind.Str same = refl
+same_kinds one other same = absurd (cc same)
+
+pub same_kind_itself : (a : Kind) → same_kind a a ≡ true
+same_kind_itself kind.Bool = refl
+same_kind_itself kind.Int = refl
+same_kind_itself kind.Big = refl
+same_kind_itself kind.Str = refl
+
+-- the value at the place of a column that is of this kind
+place_fits : (columns : List Column) (row : Row) (place : ℕ) (wanted : Kind) → is_row_of columns row ≡ true → is_of_kind (slice_get columns place) wanted ≡ true
+    → value_fits wanted (slice_index_or row place Null) ≡ true
+place_fits [] row place wanted fits is = absurd (cc is)
+place_fits (column ∷ columns) [] place wanted fits is = absurd (cc fits)
+place_fits (column ∷ columns) (value ∷ row) zero wanted fits is =
+    let both = and_parts (value_fits column.kind value) (is_row_of columns row) fits in
+    subst (λ k. value_fits k value ≡ true) (same_kinds column.kind wanted is) both.0
+place_fits (column ∷ columns) (value ∷ row) (suc place) wanted fits is =
+    let both = and_parts (value_fits column.kind value) (is_row_of columns row) fits in
+    place_fits columns row place wanted both.1 is
+
+pub selected_fits : (columns : List Column) (row : Row) (outputs : List Output) → is_row_of columns row ≡ true → list_all (is_column_of columns) outputs ≡ true
+    → is_row_of (columns_of outputs) (selected outputs row) ≡ true
+selected_fits columns row [] fits all = refl
+selected_fits columns row (output ∷ outputs) fits all =
+    let both = and_parts (is_column_of columns output) (list_all (is_column_of columns) outputs) all in
+    and_from (value_fits output.column.kind (slice_index_or row output.place Null)) (is_row_of (columns_of outputs) (selected outputs row))
+    (place_fits columns row output.place output.column.kind fits both.0) (selected_fits columns row outputs fits both.1)
+
 -- ---- rows in the order of their lines
 
 -- the rows so far and those of the lines that are left are those of all
-pub rows_more : (shape : Shape) (heads : List (List ℕ)) (lines : List FreshLine) (i : ℕ) (line : FreshLine) (rows all : List Row) (row : Row)
+pub rows_more : (table : AppendTable) (heads : List (List ℕ)) (lines : List FreshLine) (i : ℕ) (line : FreshLine) (rows all : List Row) (row : Row)
     → i < length lines → line ≡ get_or lines i line
-    → row ≡ row_of shape (head_given shape (slice_index_or heads line.file [])) line.line → rows ++ rows_of shape (with_heads heads (drop i lines)) ≡ all
-    → (rows ++ row ∷ []) ++ rows_of shape (with_heads heads (drop (i + 1) lines)) ≡ all
-rows_more shape heads lines i line rows all row below is row_is so_far =
-    let rest = rows_of shape (with_heads heads (drop (i + 1) lines)) in
+    → row ≡ selected table.outputs (row_of table.shape (head_given table.shape (slice_index_or heads line.file [])) line.line) → rows ++ rows_of table (with_heads heads (drop i lines)) ≡ all
+    → (rows ++ row ∷ []) ++ rows_of table (with_heads heads (drop (i + 1) lines)) ≡ all
+rows_more table heads lines i line rows all row below is row_is so_far =
+    let rest = rows_of table (with_heads heads (drop (i + 1) lines)) in
     let split : drop i lines ≡ line ∷ drop (i + 1) lines = subst (λ y. drop i lines ≡ y ∷ drop (i + 1) lines) (sym is) (drop_more lines i line below) in
-    let step : row ∷ rest ≡ rows_of shape (with_heads heads (drop i lines)) = ap (λ first. first ∷ rest) row_is ∙ sym (ap (λ left. rows_of shape (with_heads heads left)) split) in
+    let step : row ∷ rest ≡ rows_of table (with_heads heads (drop i lines)) = ap (λ first. first ∷ rest) row_is ∙ sym (ap (λ left. rows_of table (with_heads heads left)) split) in
     append_assoc rows (row ∷ []) rest ∙ ap (λ behind. rows ++ behind) step ∙ so_far

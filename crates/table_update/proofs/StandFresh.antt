@@ -102,7 +102,7 @@ rows_at_first table files ever held =
     let itself : HoldsPresent files files = λ dir name has. (has, refl) in
     let can = can_read_on table files files [] itself (unshrunk_at_first table files) in
     let ends : AreEnds table.folder files (reach table files []) = reach_at_ends table.folder files files [] (listing table files) can tt in
-    ap (rows_of table.shape) (same_taken table.shape.format table.shape.header table.folder files ever (reach table files []) held ends)
+    ap (rows_of table) (same_taken table.shape.format table.shape.header table.folder files ever (reach table files []) held ends)
 
 -- it stands, and is fresh where none that it has read is gone
 abbrev pub IsRefreshed : AppendTable → List LandingFile → List LandingFile → State → Type 0
@@ -169,7 +169,7 @@ load_fails found Current success ends = ends
 load_fails found (Completed read version) success ends = ends
 load_fails found end success ends = absurd success
 
-loaded_refreshes : (table : AppendTable) (files ever : List LandingFile) (room : ℕ) (state : State) (at : ℕ) (acked tried : List Payload) (end : UpdateEnd) → IsSuccess end → HoldsPresent files ever → Stands table ever state → LoadedEnds table files room state at acked tried end → IsRefreshed table files ever (state_from state tried)
+loaded_refreshes : (table : AppendTable) (files ever : List LandingFile) (room : ℕ) (state : State) (at : ℕ) (acked tried : List Payload) (end : UpdateEnd) → IsSuccess end → HoldsPresent files ever → Stands table ever state → LoadedEnds (Some table) files room state at acked tried end → IsRefreshed table files ever (state_from state tried)
 loaded_refreshes table files ever room state at acked tried end success held stands (inl judged) = absurd (judge_fails table state end success judged.0)
 loaded_refreshes table files ever room state at acked tried end success held stands (inr (inl defines)) = absurd (define_fails table room at acked tried end success defines.1)
 loaded_refreshes table files ever room state at acked tried end success held stands (inr (inr (inl first))) =
@@ -181,8 +181,8 @@ loaded_refreshes table files ever room state at acked tried end success held (in
     let flow : FlowRefreshes table files ever state [] tried = flows_refresh table files ever room at state [] acked tried end success held stands next.1 in
     subst (λ (payloads : List Payload). IsRefreshed table files ever (state_from state payloads)) (sym flow.1) flow.2
 
-pub update_refreshes : (table : AppendTable) (found : Found) (loaded : Bool) (acked tried : List Payload) (end : UpdateEnd) (ever : List LandingFile) (state : State) → Updates table found loaded acked tried end → length found.bytes ≤ 2 ^ 40 → IsSuccess end → HoldsPresent found.landing ever → HasState found.bytes state → Stands table ever state → IsRefreshed table found.landing ever (state_from state tried)
+pub update_refreshes : (table : AppendTable) (found : Found) (loaded : Bool) (acked tried : List Payload) (end : UpdateEnd) (ever : List LandingFile) (state : State) → Updates (Some table) found loaded acked tried end → length found.bytes ≤ 2 ^ 40 → IsSuccess end → HoldsPresent found.landing ever → HasState found.bytes state → Stands table ever state → IsRefreshed table found.landing ever (state_from state tried)
 update_refreshes table found false acked tried end ever state updates small success held has stands = absurd (load_fails found end success updates.0)
 update_refreshes table found true acked tried end ever state (other, at, is, ends) small success held has stands =
     let same : other ≡ state = one_state found.bytes other state (omega (arith, small)) is.is has in
-    loaded_refreshes table found.landing ever found.room state at acked tried end success held stands (subst (λ s. LoadedEnds table found.landing found.room s at acked tried end) same ends)
+    loaded_refreshes table found.landing ever found.room state at acked tried end success held stands (subst (λ s. LoadedEnds (Some table) found.landing found.room s at acked tried end) same ends)

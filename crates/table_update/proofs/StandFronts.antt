@@ -1,5 +1,5 @@
 -- Each front of the payloads that an update tries leaves a table standing.
-use Rattle.std.proofs.Common.{◌≡◌, ◌≢◌, ◌⊎◌, inl, inr, ℕ, ◌^◌, ◌≤◌, List, [], ◌∷◌, ◌++◌, length, Bool, true, false, refl, sym, ap, ◌∙◌, subst, append-nil, arith}
+use Rattle.std.proofs.Common.{◌≡◌, ◌≢◌, ◌⊎◌, inl, inr, ℕ, ◌^◌, ◌≤◌, List, [], ◌∷◌, ◌++◌, length, Bool, true, false, refl, sym, ap, ◌∙◌, subst, append-nil, arith, Option, Some, None}
 use Rattle.value_core.specs.declared.cursor.FilePlace.{FilePlace}
 use Rattle.landing_core.specs.declared.landing.LandingFile.{LandingFile}
 use Rattle.landing_core.specs.Folders.{HoldsPresent}
@@ -11,7 +11,7 @@ use Rattle.table_update.specs.declared.end.UpdateEnd.{UpdateEnd}
 use Rattle.table_update.specs.declared.end.UpdateEnd.TheVariants.{LoadFailed, Full, CommitFailed, Completed, Memory}
 use Rattle.table_update.specs.declared.table.AppendTable.{AppendTable}
 use Rattle.table_update.specs.Flow.{FlowEnds, HasNews, batch, behind}
-use Rattle.table_update.specs.Stands.{Stands, TableStands}
+use Rattle.table_update.specs.Stands.{IsFor, Stands, TableStands}
 use Rattle.table_update.specs.Table.{define}
 use Rattle.table_update.specs.Update.{DefineEnds, Flows, Found, LoadedEnds, Updates}
 use Rattle.table_update.proofs.StandSteps.{begins_standing, one_table, takes_standing}
@@ -58,15 +58,19 @@ flows_front : (table : AppendTable) (files : List LandingFile) (room at : ℕ) (
 flows_front table files room at state before acked tried end flows =
     flow_front table files flows.places before acked tried (flow_tries table files room at flows.dataset flows.places before acked tried end flows.ends)
 
-loaded_front : (table : AppendTable) (files : List LandingFile) (room : ℕ) (state : State) (at : ℕ) (acked tried : List Payload) (end : UpdateEnd) → LoadedEnds table files room state at acked tried end → IsFrontOf tried acked
-loaded_front table files room state at acked tried end (inl judged) = front_if_none acked tried judged.1
-loaded_front table files room state at acked tried end (inr (inl defines)) = front_if_none acked tried (define_tries table room at acked tried end defines.1).0
-loaded_front table files room state at acked tried end (inr (inr (inl first))) = flows_front table files room (behind at (define table)) (after_payload empty_state (define table)) (define table ∷ []) acked tried end first.2
-loaded_front table files room state at acked tried end (inr (inr (inr next))) = flows_front table files room at state [] acked tried end next.1
+table_front : (table : AppendTable) (files : List LandingFile) (room : ℕ) (state : State) (at : ℕ) (acked tried : List Payload) (end : UpdateEnd) → LoadedEnds (Some table) files room state at acked tried end → IsFrontOf tried acked
+table_front table files room state at acked tried end (inl judged) = front_if_none acked tried judged.1
+table_front table files room state at acked tried end (inr (inl defines)) = front_if_none acked tried (define_tries table room at acked tried end defines.1).0
+table_front table files room state at acked tried end (inr (inr (inl first))) = flows_front table files room (behind at (define table)) (after_payload empty_state (define table)) (define table ∷ []) acked tried end first.2
+table_front table files room state at acked tried end (inr (inr (inr next))) = flows_front table files room at state [] acked tried end next.1
 
-pub acked_front : (table : AppendTable) (found : Found) (loaded : Bool) (acked tried : List Payload) (end : UpdateEnd) → Updates table found loaded acked tried end → IsFrontOf tried acked
-acked_front table found false acked tried end updates = front_if_none acked tried updates.1
-acked_front table found true acked tried end (state, at, is, ends) = loaded_front table found.landing found.room state at acked tried end ends
+loaded_front : (plan : Option AppendTable) (files : List LandingFile) (room : ℕ) (state : State) (at : ℕ) (acked tried : List Payload) (end : UpdateEnd) → LoadedEnds plan files room state at acked tried end → IsFrontOf tried acked
+loaded_front None files room state at acked tried end ends = front_if_none acked tried ends.1
+loaded_front (Some table) files room state at acked tried end ends = table_front table files room state at acked tried end ends
+
+pub acked_front : (plan : Option AppendTable) (found : Found) (loaded : Bool) (acked tried : List Payload) (end : UpdateEnd) → Updates plan found loaded acked tried end → IsFrontOf tried acked
+acked_front plan found false acked tried end updates = front_if_none acked tried updates.1
+acked_front plan found true acked tried end (state, at, is, ends) = loaded_front plan found.landing found.room state at acked tried end ends
 
 -- ---- the state after each front
 
@@ -109,38 +113,47 @@ define_stands table ever state tried new (inl none) = none_tried table ever stat
 define_stands table ever state tried new (inr one) =
     subst (HoldsOfFronts (Stands table ever) state) (sym one) (inl new, subst (λ (s : State). Stands table ever (after_payload s (define table))) (sym new) (inr (begins_standing table ever)))
 
-pub loaded_stands : (table : AppendTable) (files ever : List LandingFile) (room : ℕ) (state : State) (at : ℕ) (acked tried : List Payload) (end : UpdateEnd) → HoldsPresent files ever → Stands table ever state → LoadedEnds table files room state at acked tried end → HoldsOfFronts (Stands table ever) state tried
-loaded_stands table files ever room state at acked tried end held stands (inl judged) = none_tried table ever state tried stands judged.2
-loaded_stands table files ever room state at acked tried end held stands (inr (inl defines)) = define_stands table ever state tried defines.0 (define_tries table room at acked tried end defines.1).1
-loaded_stands table files ever room state at acked tried end held stands (inr (inr (inl first))) =
+table_stands : (table : AppendTable) (files ever : List LandingFile) (room : ℕ) (state : State) (at : ℕ) (acked tried : List Payload) (end : UpdateEnd) → HoldsPresent files ever → Stands table ever state → LoadedEnds (Some table) files room state at acked tried end → HoldsOfFronts (Stands table ever) state tried
+table_stands table files ever room state at acked tried end held stands (inl judged) = none_tried table ever state tried stands judged.2
+table_stands table files ever room state at acked tried end held stands (inr (inl defines)) = define_stands table ever state tried defines.0 (define_tries table room at acked tried end defines.1).1
+table_stands table files ever room state at acked tried end held stands (inr (inr (inl first))) =
     let flow : FlowStands table ever (after_payload empty_state (define table)) (define table ∷ []) tried = flows_stand table files ever room (behind at (define table)) (after_payload empty_state (define table)) (define table ∷ []) acked tried end held (begins_standing table ever) first.2 in
     let later : HoldsOfFronts (Stands table ever) (after_payload state (define table)) flow.0 = subst (λ (s : State). HoldsOfFronts (Stands table ever) (after_payload s (define table)) flow.0) (sym first.0) flow.2 in
     subst (HoldsOfFronts (Stands table ever) state) (sym flow.1) (stands, later)
-loaded_stands table files ever room state at acked tried end held (inl new) (inr (inr (inr next))) =
+table_stands table files ever room state at acked tried end held (inl new) (inr (inr (inr next))) =
     absurd (cc (sym new ∙ next.1.holds.only))
-loaded_stands table files ever room state at acked tried end held (inr stands) (inr (inr (inr next))) =
+table_stands table files ever room state at acked tried end held (inr stands) (inr (inr (inr next))) =
     let flow : FlowStands table ever state [] tried = flows_stand table files ever room at state [] acked tried end held stands next.1 in
     subst (HoldsOfFronts (Stands table ever) state) (sym flow.1) flow.2
 
+loaded_stands : (plan : Option AppendTable) (table : AppendTable) (files ever : List LandingFile) (room : ℕ) (state : State) (at : ℕ) (acked tried : List Payload) (end : UpdateEnd) → IsFor plan table → HoldsPresent files ever → Stands table ever state → LoadedEnds plan files room state at acked tried end → HoldsOfFronts (Stands table ever) state tried
+loaded_stands None table files ever room state at acked tried end is held stands ends = none_tried table ever state tried stands ends.2
+loaded_stands (Some other) table files ever room state at acked tried end is held stands ends =
+    table_stands table files ever room state at acked tried end held stands (subst (λ (t : AppendTable). LoadedEnds (Some t) files room state at acked tried end) is ends)
+
 -- ---- a load that failed tells of no state
 
-pub never_failed : (table : AppendTable) (files : List LandingFile) (room : ℕ) (state : State) (at : ℕ) (acked tried : List Payload) → LoadedEnds table files room state at acked tried LoadFailed → ⊥
-never_failed table files room state at acked tried (inl judged) = judged.0
-never_failed table files room state at acked tried (inr (inl defines)) = defines.1
-never_failed table files room state at acked tried (inr (inr (inl first))) = first.2.ends.0
-never_failed table files room state at acked tried (inr (inr (inr next))) = next.1.ends.0
+table_never_failed : (table : AppendTable) (files : List LandingFile) (room : ℕ) (state : State) (at : ℕ) (acked tried : List Payload) → LoadedEnds (Some table) files room state at acked tried LoadFailed → ⊥
+table_never_failed table files room state at acked tried (inl judged) = judged.0
+table_never_failed table files room state at acked tried (inr (inl defines)) = defines.1
+table_never_failed table files room state at acked tried (inr (inr (inl first))) = first.2.ends.0
+table_never_failed table files room state at acked tried (inr (inr (inr next))) = next.1.ends.0
+
+never_failed : (plan : Option AppendTable) (files : List LandingFile) (room : ℕ) (state : State) (at : ℕ) (acked tried : List Payload) → LoadedEnds plan files room state at acked tried LoadFailed → ⊥
+never_failed None files room state at acked tried ends = ends.0
+never_failed (Some table) files room state at acked tried ends = table_never_failed table files room state at acked tried ends
 
 -- a file that was loaded isn't longer than this
 abbrev pub IsSmall : UpdateEnd → List ℕ → Type 0
 IsSmall end bytes = end ≢ LoadFailed → length bytes ≤ 2 ^ 40
 
-pub updates_stand : (table : AppendTable) (found : Found) (loaded : Bool) (acked tried : List Payload) (end : UpdateEnd) (ever : List LandingFile) (state : State) → Updates table found loaded acked tried end → IsSmall end found.bytes → HoldsPresent found.landing ever → HasState found.bytes state → Stands table ever state → HoldsOfFronts (Stands table ever) state tried
-updates_stand table found false acked tried end ever state updates small held has stands = none_tried table ever state tried stands updates.2
-updates_stand table found true acked tried end ever state (other, at, is, ends) small held has stands =
-    let loads : end ≢ LoadFailed = λ failed. never_failed table found.landing found.room other at acked tried (subst (LoadedEnds table found.landing found.room other at acked tried) failed ends) in
+pub updates_stand : (plan : Option AppendTable) (table : AppendTable) (found : Found) (loaded : Bool) (acked tried : List Payload) (end : UpdateEnd) (ever : List LandingFile) (state : State) → IsFor plan table → Updates plan found loaded acked tried end → IsSmall end found.bytes → HoldsPresent found.landing ever → HasState found.bytes state → Stands table ever state → HoldsOfFronts (Stands table ever) state tried
+updates_stand plan table found false acked tried end ever state asked updates small held has stands = none_tried table ever state tried stands updates.2
+updates_stand plan table found true acked tried end ever state asked (other, at, is, ends) small held has stands =
+    let loads : end ≢ LoadFailed = λ failed. never_failed plan found.landing found.room other at acked tried (subst (LoadedEnds plan found.landing found.room other at acked tried) failed ends) in
     let same : other ≡ state = one_state found.bytes other state (omega (arith, small loads)) is.is has in
-    loaded_stands table found.landing ever found.room state at acked tried end held stands (subst (λ s. LoadedEnds table found.landing found.room s at acked tried end) same ends)
+    loaded_stands plan table found.landing ever found.room state at acked tried end asked held stands (subst (λ s. LoadedEnds plan found.landing found.room s at acked tried end) same ends)
 
-pub fronts_stand : (table : AppendTable) (found : Found) (loaded : Bool) (acked tried : List Payload) (end : UpdateEnd) (ever : List LandingFile) (state : State) (front later : List Payload) → Updates table found loaded acked tried end → length found.bytes ≤ 2 ^ 40 → HoldsPresent found.landing ever → HasState found.bytes state → Stands table ever state → tried ≡ front ++ later → Stands table ever (state_from state front)
-fronts_stand table found loaded acked tried end ever state front later updates small held has stands is =
-    of_front (Stands table ever) state tried front later is (updates_stand table found loaded acked tried end ever state updates (λ loads. small) held has stands)
+pub fronts_stand : (plan : Option AppendTable) (table : AppendTable) (found : Found) (loaded : Bool) (acked tried : List Payload) (end : UpdateEnd) (ever : List LandingFile) (state : State) (front later : List Payload) → IsFor plan table → Updates plan found loaded acked tried end → length found.bytes ≤ 2 ^ 40 → HoldsPresent found.landing ever → HasState found.bytes state → Stands table ever state → tried ≡ front ++ later → Stands table ever (state_from state front)
+fronts_stand plan table found loaded acked tried end ever state front later asked updates small held has stands is =
+    of_front (Stands table ever) state tried front later is (updates_stand plan table found loaded acked tried end ever state asked updates (λ loads. small) held has stands)

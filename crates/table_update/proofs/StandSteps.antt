@@ -51,7 +51,7 @@ takes_standing table files ever state held stands news =
     let up = ascending places stands.holds.form in
     let can : CanReadOn table.folder files ever places (listing table files) = can_read_on table files ever places held news.none_shrank in
     let ends : AreEnds table.folder ever (reach table files places) = reach_at_ends table.folder files ever places (listing table files) can stands.ends in
-    let rows = in_row_order (rows_of table.shape (lines table files places)) in
+    let rows = in_row_order (rows_of table (lines table files places)) in
     let form : IsPlaces (reach table files places) = (one_form (reach table files places)).1 (reach_ascending table.folder files places places (listing table files) up, ends_above table.folder ever (reach table files places) ends) in
     record {
       dataset = with_rows table rows (reach table files places) stands.dataset;
@@ -74,7 +74,7 @@ table_grows table was now state grown stands =
       places = stands.places;
       holds = stands.holds;
       ends = ends_kept table.folder was now stands.places grown stands.ends;
-      content_is = subst (λ taken. SameBag (content stands.dataset) (rows_of table.shape taken)) (sym kept) stands.content_is;
+      content_is = subst (λ taken. SameBag (content stands.dataset) (rows_of table taken)) (sym kept) stands.content_is;
     }
 
 pub still_stands : (table : AppendTable) (was now : List LandingFile) (state : State) → HaveGrown was now → Stands table was state → Stands table now state

@@ -1,5 +1,5 @@
 -- Whatever a crash leaves of an update has a state that stands.
-use Rattle.std.proofs.Common.{◌≡◌, ◌⊎◌, inl, inr, ℕ, ◌+◌, ◌-◌, ◌≤◌, List, [], ◌++◌, Bool, false, sym, subst, append-nil, arith}
+use Rattle.std.proofs.Common.{◌≡◌, ◌⊎◌, inl, inr, ℕ, ◌+◌, ◌-◌, ◌≤◌, List, [], ◌++◌, Bool, false, sym, subst, append-nil, arith, Option}
 use Rattle.disk_model.specs.declared.disk.Side.TheVariants.{Left}
 use Rattle.disk_model.specs.Disk.{DiskState, IsHonest, TwoFiles, file, left_at}
 use Rattle.landing_core.specs.declared.landing.LandingFile.{LandingFile}
@@ -11,7 +11,7 @@ use Rattle.table_update.specs.declared.end.UpdateEnd.{UpdateEnd}
 use Rattle.table_update.specs.declared.end.UpdateEnd.TheVariants.{LoadFailed}
 use Rattle.table_update.specs.declared.table.AppendTable.{AppendTable}
 use Rattle.table_update.specs.Crash.{HasThem, IsImage, IsSettled, Updated}
-use Rattle.table_update.specs.Stands.{HasStanding, IsStanding, Stands}
+use Rattle.table_update.specs.Stands.{HasStanding, IsFor, IsStanding, Stands}
 use Rattle.table_update.specs.Update.{Found, Updates}
 use Rattle.table_update.proofs.StandFronts.{HoldsOfFronts, IsSmall, acked_front, of_front, updates_stand}
 
@@ -37,31 +37,31 @@ any_image table ever may_be_older bytes tried was image stand older (inr keeps) 
 
 -- ---- an update, over one image and over a disk
 
-stand_of : (table : AppendTable) (found : Found) (loaded : Bool) (acked tried : List Payload) (end : UpdateEnd) (ever : List LandingFile) → Updates table found loaded acked tried end → IsSmall end found.bytes → HoldsPresent found.landing ever → HasStanding table ever found.bytes → FrontsStand table ever found.bytes tried
-stand_of table found loaded acked tried end ever updates small held (state, has, stands) = (state, has, updates_stand table found loaded acked tried end ever state updates small held has stands)
+stand_of : (plan : Option AppendTable) (table : AppendTable) (found : Found) (loaded : Bool) (acked tried : List Payload) (end : UpdateEnd) (ever : List LandingFile) → IsFor plan table → Updates plan found loaded acked tried end → IsSmall end found.bytes → HoldsPresent found.landing ever → HasStanding table ever found.bytes → FrontsStand table ever found.bytes tried
+stand_of plan table found loaded acked tried end ever asked updates small held (state, has, stands) = (state, has, updates_stand plan table found loaded acked tried end ever state asked updates small held has stands)
 
-pub settled_stands : (table : AppendTable) (found : Found) (loaded : Bool) (acked tried : List Payload) (end : UpdateEnd) (ever : List LandingFile) (was image : List ℕ) → Updates table found loaded acked tried end → IsSmall end found.bytes → HoldsPresent found.landing ever → HasStanding table ever found.bytes → HasStanding table ever was → IsSettled (loaded ≡ false) found.bytes acked tried was image → HasStanding table ever image
-settled_stands table found loaded acked tried end ever was image updates small held now older settled =
-    let front = acked_front table found loaded acked tried end updates in
-    settled_image table ever (loaded ≡ false) found.bytes acked tried front.0 was image (stand_of table found loaded acked tried end ever updates small held now) front.1 older settled
+pub settled_stands : (plan : Option AppendTable) (table : AppendTable) (found : Found) (loaded : Bool) (acked tried : List Payload) (end : UpdateEnd) (ever : List LandingFile) (was image : List ℕ) → IsFor plan table → Updates plan found loaded acked tried end → IsSmall end found.bytes → HoldsPresent found.landing ever → HasStanding table ever found.bytes → HasStanding table ever was → IsSettled (loaded ≡ false) found.bytes acked tried was image → HasStanding table ever image
+settled_stands plan table found loaded acked tried end ever was image asked updates small held now older settled =
+    let front = acked_front plan found loaded acked tried end updates in
+    settled_image table ever (loaded ≡ false) found.bytes acked tried front.0 was image (stand_of plan table found loaded acked tried end ever asked updates small held now) front.1 older settled
 
-pub any_stands : (may_be_older : Type 0) (table : AppendTable) (found : Found) (loaded : Bool) (acked tried : List Payload) (end : UpdateEnd) (ever : List LandingFile) (was image : List ℕ) → Updates table found loaded acked tried end → IsSmall end found.bytes → HoldsPresent found.landing ever → HasStanding table ever found.bytes → HasStanding table ever was → IsImage may_be_older found.bytes tried was image → HasStanding table ever image
-any_stands may_be_older table found loaded acked tried end ever was image updates small held now older leaves =
-    any_image table ever may_be_older found.bytes tried was image (stand_of table found loaded acked tried end ever updates small held now) older leaves
+pub any_stands : (may_be_older : Type 0) (plan : Option AppendTable) (table : AppendTable) (found : Found) (loaded : Bool) (acked tried : List Payload) (end : UpdateEnd) (ever : List LandingFile) (was image : List ℕ) → IsFor plan table → Updates plan found loaded acked tried end → IsSmall end found.bytes → HoldsPresent found.landing ever → HasStanding table ever found.bytes → HasStanding table ever was → IsImage may_be_older found.bytes tried was image → HasStanding table ever image
+any_stands may_be_older plan table found loaded acked tried end ever was image asked updates small held now older leaves =
+    any_image table ever may_be_older found.bytes tried was image (stand_of plan table found loaded acked tried end ever asked updates small held now) older leaves
 
-module _ (timed : Type 0) (table : AppendTable) (found : Found) (end : UpdateEnd) (old new : DiskState) (ever : List LandingFile) (updated : Updated timed table found end old new) (held : HoldsPresent found.landing ever) (honest : IsHonest old) (same : found.bytes ≡ file Left old.now) (standing : IsStanding table ever old) where
+module _ (timed : Type 0) (plan : Option AppendTable) (table : AppendTable) (found : Found) (end : UpdateEnd) (old new : DiskState) (ever : List LandingFile) (asked : IsFor plan table) (updated : Updated timed plan found end old new) (held : HoldsPresent found.landing ever) (honest : IsHonest old) (same : found.bytes ≡ file Left old.now) (standing : IsStanding table ever old) where
   now_standing : HasStanding table ever found.bytes
   now_standing = subst (HasStanding table ever) (sym same) (standing old.now honest)
 
   pub keeps_standing : IsStanding table ever new
   keeps_standing files leaves =
       let from = updated.leaves.settled files leaves in
-      settled_stands table found updated.loaded updated.acked updated.tried end ever (file Left from.0) (file Left files) updated.updates updated.small held now_standing (standing from.0 from.1) from.2.changed
+      settled_stands plan table found updated.loaded updated.acked updated.tried end ever (file Left from.0) (file Left files) asked updated.updates updated.small held now_standing (standing from.0 from.1) from.2.changed
 
   moment_stands : timed → (k : ℕ) (files : TwoFiles) → old.moment + k ≤ new.moment → left_at new (old.moment + k) files → HasStanding table ever (file Left files)
   moment_stands tells k files before leaves =
       let from = (updated.leaves.each tells).each k files before leaves in
-      any_stands ((k ≡ 0) ⊎ (end ≡ LoadFailed)) table found updated.loaded updated.acked updated.tried end ever (file Left from.0) (file Left files) updated.updates updated.small held now_standing (standing from.0 from.1) from.2.changed
+      any_stands ((k ≡ 0) ⊎ (end ≡ LoadFailed)) plan table found updated.loaded updated.acked updated.tried end ever (file Left from.0) (file Left files) asked updated.updates updated.small held now_standing (standing from.0 from.1) from.2.changed
 
   pub moments_standing : timed → (k : ℕ) (files : TwoFiles) → old.moment ≤ k → k ≤ new.moment → left_at new k files → HasStanding table ever (file Left files)
   moments_standing tells k files from to leaves =

@@ -1,5 +1,5 @@
 -- What an update comes to, and what a crash leaves of it.
-use Rattle.std.proofs.Common.{◌≡◌, ◌≢◌, ℕ, ◌≤◌, ◌^◌, List, [], true, false, length, Result, Ok, Err, refl, sym, ap, ◌∙◌, subst, arith}
+use Rattle.std.proofs.Common.{◌≡◌, ◌≢◌, ℕ, ◌≤◌, ◌^◌, List, [], true, false, length, Result, Ok, Err, Option, refl, sym, ap, ◌∙◌, subst, arith}
 use Rattle.disk_model.specs.declared.disk.Side.TheVariants.{Left}
 use Rattle.disk_model.specs.Disk.{DiskState, Alone, IsHonest, file}
 use Rattle.disk_model.specs.Moments.{LeavesOnly}
@@ -36,9 +36,9 @@ Stood refusal = ◌≢◌ {A = Result Store StoreRefusal} (Err refusal) (Err Fai
 
 -- ---- the store was not loaded
 
-module _ (timed : Type 0) (table : AppendTable) (files : List LandingFile) (room : ℕ) (old new : DiskState) (loads : Loads old new) where
+module _ (timed : Type 0) (plan : Option AppendTable) (files : List LandingFile) (room : ℕ) (old new : DiskState) (loads : Loads old new) where
   refused : (end : UpdateEnd) → LoadEnds (found_on old room files) end → Leaves timed false (end ≡ update.LoadFailed) old.now.left [] [] old new → (end ≢ update.LoadFailed → length old.now.left ≤ 2 ^ 40)
-      → Updated timed table (found_on old room files) end old new
+      → Updated timed plan (found_on old room files) end old new
   refused update.Current ends leaves small = absurd ends
   refused (update.Completed read version) ends leaves small = absurd ends
   refused end ends leaves small = record {
@@ -53,7 +53,7 @@ module _ (timed : Type 0) (table : AppendTable) (files : List LandingFile) (room
   }
 
   pub updated_refused : (refusal : StoreRefusal) → LoadAnswers room old.now.left (Err refusal) → (Stood refusal → length old.now.left ≤ 2 ^ 40) → (timed → LeavesOnly (λ _. Alone Left KeepsState) old new)
-      → (timed → Stood refusal → LeavesOnly (KeepsSynced old.now.left) old new) → Updated timed table (found_on old room files) (end_of_load refusal) old new
+      → (timed → Stood refusal → LeavesOnly (KeepsSynced old.now.left) old new) → Updated timed plan (found_on old room files) (end_of_load refusal) old new
   updated_refused (Foreign side len) answers small by_moment synced =
       refused (update.Foreign len) answers.1 (leaves_refused timed _ old.now.left old new loads (λ told. synced told (λ same. cc same))) (λ other. small (λ same. cc same))
   updated_refused (Damaged side at) answers small by_moment synced =
@@ -67,13 +67,13 @@ module _ (timed : Type 0) (table : AppendTable) (files : List LandingFile) (room
 
 -- ---- it was loaded
 
-module _ (timed : Type 0) (table : AppendTable) (files : List LandingFile) (room : ℕ) (old : DiskState) (first : Store)
+module _ (timed : Type 0) (plan : Option AppendTable) (files : List LandingFile) (room : ℕ) (old : DiskState) (first : Store)
     (answers : LoadAnswers room old.now.left (Ok first)) (ends : EndsAt (log_end (store_log first)) old.now.left) (small : length old.now.left ≤ 2 ^ 40) where
   one : (other : State) → HasState old.now.left other → other ≡ store_state first
   one other has = one_state old.now.left other (store_state first) (omega (arith, small)) has answers.0
 
   updated_ran : (end : UpdateEnd) (store : Store) (mid new : DiskState) → Loads old mid → (timed → LeavesOnly (KeepsSynced old.now.left) old mid)
-      → HasRun timed table files room (log_end (store_log first)) (store_state first) end store mid new → IsHonest new → Updated timed table (found_on old room files) end old new
+      → HasRun timed plan files room (log_end (store_log first)) (store_state first) end store mid new → IsHonest new → Updated timed plan (found_on old room files) end old new
   updated_ran end store mid new loads synced ran honest = record {
     loaded = true;
     acked = ran.acked;
@@ -96,6 +96,6 @@ module _ (timed : Type 0) (table : AppendTable) (files : List LandingFile) (room
   }
 
   pub updated_loaded : (end : UpdateEnd) (store : Store) (mid new : DiskState) (room_now : ℕ) → room_now ≡ room → Loads old mid → (timed → LeavesOnly (KeepsSynced old.now.left) old mid)
-      → HasRun timed table files room_now (log_end (store_log first)) (store_state first) end store mid new → IsHonest new → Updated timed table (found_on old room files) end old new
+      → HasRun timed plan files room_now (log_end (store_log first)) (store_state first) end store mid new → IsHonest new → Updated timed plan (found_on old room files) end old new
   updated_loaded end store mid new room_now same loads synced ran honest =
-      updated_ran end store mid new loads synced (subst (λ (r : ℕ). HasRun timed table files r (log_end (store_log first)) (store_state first) end store mid new) same ran) honest
+      updated_ran end store mid new loads synced (subst (λ (r : ℕ). HasRun timed plan files r (log_end (store_log first)) (store_state first) end store mid new) same ran) honest

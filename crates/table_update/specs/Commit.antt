@@ -1,5 +1,5 @@
 -- How a commit of an update ends, and what one commit or more leave of the store.
-use Rattle.std.specs.Prelude.{◌≡◌, ◌⊎◌, ℕ, List, [], ◌∷◌, ◌++◌, Option, Some, Result, Ok, Err}
+use Rattle.std.specs.Prelude.{◌≡◌, ◌⊎◌, ℕ, List, [], ◌∷◌, ◌++◌, Option, Result, Ok, Err}
 use Rattle.disk_model.specs.declared.disk.Side.TheVariants.{Left}
 use Rattle.disk_model.specs.Disk.{DiskState, Alone, Follows}
 use Rattle.disk_model.specs.Moments.{LeavesOnly}
@@ -14,7 +14,7 @@ use Rattle.store_core.specs.declared.commit.CommitEnd.TheVariants as store
 use Rattle.store_core.specs.declared.store.Store.{Store}
 use Rattle.commit_gate.specs.AtRest.{log_end}
 use Rattle.table_update.specs.declared.end.UpdateEnd.{UpdateEnd}
-use Rattle.table_update.specs.declared.end.UpdateEnd.TheVariants.{LoadFailed, LandingFailed, Full, VersionFull, CommitFailed, Memory}
+use Rattle.table_update.specs.declared.end.UpdateEnd.TheVariants.{LoadFailed, LandingFailed, Removed, Full, VersionFull, CommitFailed, Current, Memory}
 use Rattle.table_update.specs.declared.table.AppendTable.{AppendTable}
 use Rattle.table_update.specs.Flow.{HasRoom, IsFull}
 use Rattle.table_update.specs.Update.{Flows, LoadedEnds, IsSuccess, end_after}
@@ -79,13 +79,20 @@ pub record FlowRan (timed : Type 0) (table : AppendTable) (files : List LandingF
   pub stores : Stores timed state acked tried old new
   pub left : IsSuccess end → IsLeft store (state_from state tried) (end_after at tried) new
 
--- an update has run from this state
-pub record HasRun (timed : Type 0) (table : AppendTable) (files : List LandingFile) (room at : ℕ) (state : State) (end : UpdateEnd) (store : Store) (old new : DiskState) : Type 0 where
+-- an update of this table, or of none, has run from this state
+pub record HasRun (timed : Type 0) (plan : Option AppendTable) (files : List LandingFile) (room at : ℕ) (state : State) (end : UpdateEnd) (store : Store) (old new : DiskState) : Type 0 where
   pub acked : List Payload
   pub tried : List Payload
-  pub ends : LoadedEnds (Some table) files room state at acked tried end
+  pub ends : LoadedEnds plan files room state at acked tried end
   pub stores : Stores timed state acked tried old new
   pub left : IsSuccess end → IsLeft store (state_from state tried) (end_after at tried) new
+
+-- what an update without a table comes to
+abbrev pub IsOfNothing : UpdateEnd → Type 0
+IsOfNothing (Removed name) = Unit {0}
+IsOfNothing Current = Unit {0}
+IsOfNothing Memory = Unit {0}
+IsOfNothing end = ⊥
 
 -- what a run from a loaded store doesn't come to
 abbrev pub IsOfRun : UpdateEnd → Type 0

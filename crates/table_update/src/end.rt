@@ -2,7 +2,7 @@
 use std::alloc::AllocError;
 use value_core::{Name, Text};
 
-/// How an update of one append table ends.
+/// How an update of one append table ends, or of a pipeline without one.
 #[derive(Debug, Drop)]
 pub enum UpdateEnd {
     /// The disk failed while the store was loaded.
@@ -16,7 +16,7 @@ pub enum UpdateEnd {
     Damaged {
         at: u64,
     },
-    /// The store has a dataset of this name, which is not the table.
+    /// The store has a dataset of this name, which is not the table, or there is no table.
     Removed {
         name: Name,
     },

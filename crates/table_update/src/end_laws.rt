@@ -12,8 +12,8 @@ use commit_gate::a_log_has_one_list_of_bodies;
 use store_core::a_file_has_one_state;
 
 /// A law: where no device fails and memory is there, what an update comes to and commits follows from
-/// the table if there is one, the store's file, its room and the landing files; two files that a store takes for the
-/// same give the same.
+/// the table, if there is one, the store's file, its room and the landing files; two files that a store
+/// takes for the same give the same.
 pub fn an_update_has_one_end()
     ensures same { (plan : Option AppendTable) (found : Found) (loaded also_loaded : Bool) (acked tried also_acked also_tried : List Payload) (end other : UpdateEnd)
         → length found.bytes ≤ 2 ^ 40 → Updates plan found loaded acked tried end → Updates plan found also_loaded also_acked also_tried other → IsOwn end → IsOwn other
@@ -44,7 +44,7 @@ pub fn settled_files_are_alike()
 
 /// A law: where no device fails and memory is there, an update succeeds that has nothing to refuse: the
 /// store loads, it has the table or nothing, no file is shorter than how far it was read, and there is
-/// room.
+/// room. Without a table the store has nothing.
 pub fn an_update_succeeds_where_nothing_is_refused()
     ensures { (plan : Option AppendTable) (found : Found) (loaded : Bool) (acked tried : List Payload) (end : UpdateEnd)
         → length found.bytes ≤ 2 ^ 40 → Updates plan found loaded acked tried end → IsOwn end → NothingRefused plan found → IsSuccess end }

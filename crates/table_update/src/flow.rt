@@ -6,7 +6,6 @@ ghost use Rattle.disk_model.specs.Faults.{Rose};
 ghost use Rattle.value_core.specs.Bags.{IsInOrder};
 ghost use Rattle.value_core.specs.FilePlaces.{IsPlaces};
 ghost use Rattle.value_core.specs.declared.cursor.FilePlace.{FilePlace};
-ghost use Rattle.line_rows.specs.Lines.{keeps_text};
 ghost use Rattle.commit_gate.specs.AtRest.{log_end, LeavesFile};
 ghost use Rattle.landing_core.specs.declared.landing.LandingFile.{LandingFile};
 ghost use Rattle.store_state.specs.Follows.{all_fit, none_falls};
@@ -15,7 +14,7 @@ ghost use Rattle.store_core.specs.Ours.{IsOurs};
 ghost use Rattle.store_core.specs.Store.{store_state, store_log, store_broken, IsAsLeft};
 ghost use Rattle.table_update.specs.Commit.{FlowRan, IsOfRun, IsOfTake};
 ghost use Rattle.table_update.specs.News.{IsNews};
-ghost use Rattle.table_update.specs.Table.{HoldsTable};
+ghost use Rattle.table_update.specs.Table.{columns_of, HoldsTable, is_sound};
 
 use crate::commit::commit;
 use crate::end::UpdateEnd;
@@ -50,7 +49,7 @@ fn take<D: Disk>(
     // What is new fits the table, and goes on where its flow has read up to.
     requires goes_on { (dataset : Dataset) × (places : List FilePlace) × HoldsTable table.now (store_state store.old) dataset places × (none_falls places news.places ≡ true) }
     requires form { IsPlaces news.places }
-    requires fits { all_fit table.now.shape.columns news.rows ≡ true }
+    requires fits { all_fit (columns_of table.now.outputs) news.rows ≡ true }
     requires order { IsInOrder news.rows }
 
     ensures ran { D.tells → IsHonest (D.state disk.old) → (files : List LandingFile) (dataset : Dataset) (places : List FilePlace) → HoldsTable table.now (store_state store.old) dataset places → IsNews table.now files places news
@@ -88,7 +87,7 @@ pub(crate) fn flow<D: Disk, L: Landing>(
     requires at_rest { D.tells → IsAsLeft store.old (D.state disk.old) }
     requires whole { store_broken store.old ≡ None }
     requires holds { (dataset : Dataset) × (places : List FilePlace) × HoldsTable table.now (store_state store.old) dataset places }
-    requires text { IsTrue (keeps_text table.now.shape) }
+    requires sound { IsTrue (is_sound table.now) }
 
     ensures ran { D.tells → L.tells → IsHonest (D.state disk.old) → FlowRan D.tells_moments table.now (L.present landing.old) (D.room disk.old) (log_end (store_log store.old)) (store_state store.old) result store.new (D.state disk.old) (D.state disk.new) }
     ensures honest { D.tells → IsHonest (D.state disk.old) → IsHonest (D.state disk.new) }

@@ -1,4 +1,5 @@
-//! One update of one append table: what is new in its landing folder goes into the store.
+//! One update of one append table, or of a pipeline without one: what is new in the table's landing folder
+//! goes into the store.
 #![tactic(auto)]
 
 mod commit;
@@ -7,6 +8,7 @@ mod end_laws;
 mod flow;
 mod judge;
 mod news;
+mod nothing;
 mod one_update;
 mod rows;
 mod run;
@@ -22,7 +24,7 @@ pub use standing_laws::{
     a_completed_update_is_a_full_refresh, a_new_file_stands, an_update_keeps_a_table_standing,
     growth_keeps_a_table_standing,
 };
-pub use table::AppendTable;
+pub use table::{AppendTable, Output, Outputs};
 
 #[cfg(test)]
 mod tests;

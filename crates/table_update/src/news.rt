@@ -8,14 +8,13 @@ ghost use Rattle.landing_core.specs.Ends.{EndsBy};
 ghost use Rattle.landing_core.specs.Folders.{AreThere, listed_names};
 ghost use Rattle.landing_core.specs.Names.{AreAscending};
 ghost use Rattle.landing_history.specs.Taken.{with_heads};
-ghost use Rattle.line_rows.specs.Lines.{keeps_text};
 ghost use Rattle.store_core.specs.Store.{store_state};
 ghost use Rattle.store_state.specs.Follows.{all_fit, none_falls};
 ghost use Rattle.store_state.specs.State.{Dataset};
 ghost use Rattle.table_update.specs.Flow.{FindsNone, lines, reach, shrunk, listing as listed};
 ghost use Rattle.table_update.specs.News as spec;
 ghost use Rattle.table_update.specs.News.{IsNews, IsOfNews, IsOfList};
-ghost use Rattle.table_update.specs.Table.{HoldsTable};
+ghost use Rattle.table_update.specs.Table.{columns_of, HoldsTable, is_sound};
 
 use crate::end::UpdateEnd;
 use crate::rows::sorted_rows;
@@ -116,11 +115,11 @@ pub(crate) fn find_news<L: Landing>(
     table: &AppendTable,
     places: &FilePlaces,
 ) -> Result<News, UpdateEnd>
-    requires text { IsTrue (keeps_text table.now.shape) }
+    requires sound { IsTrue (is_sound table.now) }
     requires form { IsPlaces places.now }
     ensures ok { L.tells → IfOk result (IsNews table.now (L.present landing.old) places.now) }
     ensures err { L.tells → IfErr result (FindsNone table.now (L.present landing.old) places.now) }
-    ensures fits { IfOk result (λ news. all_fit table.now.shape.columns news.rows ≡ true) }
+    ensures fits { IfOk result (λ news. all_fit (columns_of table.now.outputs) news.rows ≡ true) }
     ensures moves { IfOk result (λ news. IsPlaces news.places × (none_falls places.now news.places ≡ true)) }
     ensures order { IfOk result (λ news. IsInOrder news.rows) }
     ensures own { IfErr result IsOfNews }
@@ -133,7 +132,7 @@ pub(crate) fn find_news<L: Landing>(
         return Err(UpdateEnd::Current);
     }
     Ok(News {
-        rows: sorted_rows(alloc, &table.shape, &fresh.heads, fresh.lines.as_slice())?,
+        rows: sorted_rows(alloc, table, &fresh.heads, fresh.lines.as_slice())?,
         read: fresh.lines.len() as u64,
         places: fresh.cursor,
     })

@@ -1,12 +1,15 @@
 // One update.
-ghost use Rattle.std.specs.Prelude.{◌≡◌, ◌≤◌, IsTrue};
+ghost use Rattle.std.specs.Prelude.{◌≡◌, ◌≤◌, None, IsTrue};
 ghost use Rattle.std.specs.Option.{option_copied};
 ghost use Rattle.disk_model.specs.declared.disk.Side.TheVariants.{Right};
 ghost use Rattle.disk_model.specs.Disk.{IsHonest};
 ghost use Rattle.disk_model.specs.Faults.{Rose};
-ghost use Rattle.commit_gate.specs.AtRest.{LeavesFile};
+ghost use Rattle.commit_gate.specs.AtRest.{log_end, LeavesFile};
 ghost use Rattle.landing_core.specs.Folders.{HoldsPresent};
 ghost use Rattle.store_core.specs.Ours.{IsOurs};
+ghost use Rattle.store_core.specs.Reach.{IsReachable};
+ghost use Rattle.store_core.specs.Store.{store_state, store_log, store_broken, IsAsLeft};
+ghost use Rattle.table_update.specs.Commit.{HasRun, IsOfRun};
 ghost use Rattle.table_update.specs.Crash.{Updated};
 ghost use Rattle.table_update.specs.Stands.{IsFor, IsStanding};
 ghost use Rattle.table_update.specs.Table.{is_sound_plan};
@@ -34,6 +37,39 @@ fn end_of_load(refusal: StoreRefusal) -> UpdateEnd
     }
 }
 
+/// An update once its store is loaded.
+fn go_on<D: Disk, L: Landing>(
+    alloc: Global,
+    disk: &mut D,
+    landing: &mut L,
+    table: Option<&AppendTable>,
+    store: &mut Store,
+) -> UpdateEnd
+    requires at_rest { D.tells → IsAsLeft store.old (D.state disk.old) }
+    requires whole { store_broken store.old ≡ None }
+    requires reached { IsReachable (store_state store.old) }
+    requires honest { D.tells → IsHonest (D.state disk.old) }
+    requires sound { IsTrue (is_sound_plan (option_copied table)) }
+
+    ensures ran { D.tells → L.tells → IsHonest (D.state disk.old) → HasRun D.tells_moments (option_copied table.entry) (L.present landing.old) (D.room disk.old) (log_end (store_log store.old)) (store_state store.old) result store.new (D.state disk.old) (D.state disk.new) }
+    ensures honest { D.tells → IsHonest (D.state disk.old) → IsHonest (D.state disk.new) }
+    ensures ours { D.tells → IsHonest (D.state disk.old) → IsOurs (D.state disk.old) → IsOurs (D.state disk.new) }
+    ensures kept { D.tells → IsHonest (D.state disk.old) → LeavesFile Right (D.state disk.old) (D.state disk.new) }
+    ensures present { L.tells → L.present landing.new ≡ L.present landing.old }
+    ensures ever { L.tells → L.ever landing.new ≡ L.ever landing.old }
+    ensures own { IsOfRun result }
+    ensures commit_fault { result ≡ UpdateEnd.CommitFailed → Rose (D.faults disk.old) (D.faults disk.new) }
+    ensures landing_fault { result ≡ UpdateEnd.LandingFailed → Rose (L.faults landing.old) (L.faults landing.new) }
+    ensures disk_later { D.faults disk.old ≤ D.faults disk.new }
+    ensures landing_later { L.faults landing.old ≤ L.faults landing.new }
+    ensures room { D.room disk.new ≡ D.room disk.old }
+{
+    match table {
+        Some(table) => run(alloc, disk, landing, table, store),
+        None => nothing(alloc, store),
+    }
+}
+
 /// One update of a pipeline that has this append table, or none: loads the store, defines the table where
 /// the store has no dataset yet, and takes in the complete lines of its folder that are new, in one
 /// commit. Without a table there is nothing new.
@@ -56,12 +92,12 @@ pub fn update<D: Disk, L: Landing>(
     requires sound { IsTrue (is_sound_plan (option_copied table)) }
 
     // How it ended, which payloads it committed, and what a crash leaves.
-    ensures updated { D.tells → L.tells → Updated D.tells_moments (option_copied table) (record { bytes = (D.state disk.old).now.left; room = D.room disk.old; landing = L.present landing.old }) result (D.state disk.old) (D.state disk.new) }
+    ensures updated { D.tells → L.tells → Updated D.tells_moments (option_copied table.entry) (record { bytes = (D.state disk.old).now.left; room = D.room disk.old; landing = L.present landing.old }) result (D.state disk.old) (D.state disk.new) }
     // A store of this kind stays one, whatever a crash leaves.
     ensures ours { D.tells → IsOurs (D.state disk.old) → IsOurs (D.state disk.new) }
 
     // Where whatever a crash leaves of the store stood as it should, so it does after the update.
-    ensures stands { D.tells → L.tells → HoldsPresent (L.present landing.old) (L.ever landing.old) → (kept : AppendTable) → IsFor (option_copied table) kept → IsStanding kept (L.ever landing.old) (D.state disk.old) → IsStanding kept (L.ever landing.old) (D.state disk.new) }
+    ensures stands { D.tells → L.tells → HoldsPresent (L.present landing.old) (L.ever landing.old) → (asked : AppendTable) → IsFor (option_copied table.entry) asked → IsStanding asked (L.ever landing.old) (D.state disk.old) → IsStanding asked (L.ever landing.old) (D.state disk.new) }
 
     // What an update leaves alone.
     ensures honest { D.tells → IsHonest (D.state disk.new) }
@@ -78,10 +114,7 @@ pub fn update<D: Disk, L: Landing>(
     ensures landing_fault { result ≡ UpdateEnd.LandingFailed → Rose (L.faults landing.old) (L.faults landing.new) }
 {
     match Store::load(alloc, disk) {
-        Ok(mut store) => match table {
-            Some(table) => run(alloc, disk, landing, table, &mut store),
-            None => nothing(alloc, &store),
-        },
+        Ok(mut store) => go_on(alloc, disk, landing, table, &mut store),
         Err(refusal) => end_of_load(refusal),
     }
 }

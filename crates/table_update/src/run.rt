@@ -1,14 +1,14 @@
 // An update from the loaded store on.
-ghost use Rattle.std.specs.Prelude.{◌≡◌, ◌≤◌, None, IsTrue};
+ghost use Rattle.std.specs.Prelude.{◌≡◌, ◌≤◌, None, Some, IsTrue};
 ghost use Rattle.disk_model.specs.declared.disk.Side.TheVariants.{Right};
 ghost use Rattle.disk_model.specs.Disk.{IsHonest};
 ghost use Rattle.disk_model.specs.Faults.{Rose};
-ghost use Rattle.line_rows.specs.Lines.{keeps_text};
 ghost use Rattle.commit_gate.specs.AtRest.{log_end, LeavesFile};
 ghost use Rattle.store_core.specs.Ours.{IsOurs};
 ghost use Rattle.store_core.specs.Reach.{IsReachable};
 ghost use Rattle.store_core.specs.Store.{store_state, store_log, store_broken, IsAsLeft};
 ghost use Rattle.table_update.specs.Commit.{HasRun, IsOfRun};
+ghost use Rattle.table_update.specs.Table.{is_sound};
 
 use crate::commit::commit;
 use crate::end::UpdateEnd;
@@ -32,9 +32,9 @@ pub(crate) fn run<D: Disk, L: Landing>(
     requires whole { store_broken store.old ≡ None }
     requires reached { IsReachable (store_state store.old) }
     requires honest { D.tells → IsHonest (D.state disk.old) }
-    requires text { IsTrue (keeps_text table.now.shape) }
+    requires sound { IsTrue (is_sound table.now) }
 
-    ensures ran { D.tells → L.tells → IsHonest (D.state disk.old) → HasRun D.tells_moments table.now (L.present landing.old) (D.room disk.old) (log_end (store_log store.old)) (store_state store.old) result store.new (D.state disk.old) (D.state disk.new) }
+    ensures ran { D.tells → L.tells → IsHonest (D.state disk.old) → HasRun D.tells_moments (Some table.now) (L.present landing.old) (D.room disk.old) (log_end (store_log store.old)) (store_state store.old) result store.new (D.state disk.old) (D.state disk.new) }
     ensures honest { D.tells → IsHonest (D.state disk.old) → IsHonest (D.state disk.new) }
     ensures ours { D.tells → IsHonest (D.state disk.old) → IsOurs (D.state disk.old) → IsOurs (D.state disk.new) }
     ensures kept { D.tells → IsHonest (D.state disk.old) → LeavesFile Right (D.state disk.old) (D.state disk.new) }

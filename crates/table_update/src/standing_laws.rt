@@ -14,8 +14,9 @@ ghost use Rattle.table_update.specs.declared.end.UpdateEnd.{UpdateEnd};
 ghost use Rattle.table_update.specs.declared.end.UpdateEnd.TheVariants.{LoadFailed};
 ghost use Rattle.table_update.specs.declared.table.AppendTable.{AppendTable};
 
-/// A law: an update of a table, or of a pipeline without one, keeps the table standing, with any front of its payloads, whatever a crash leaves of
-/// it and at whatever moment. Its premise: files that are there hold all that they ever held.
+/// A law: an update of a table, or of a pipeline without one, keeps the table standing, with any front of
+/// its payloads, whatever a crash leaves of it and at whatever moment. Its premise: files that are there
+/// hold all that they ever held.
 pub fn an_update_keeps_a_table_standing()
     ensures fronts { (plan : Option AppendTable) (table : AppendTable) (found : Found) (loaded : Bool) (acked tried : List Payload) (end : UpdateEnd) (ever : List LandingFile) (state : State) (front behind : List Payload)
         → IsFor plan table → Updates plan found loaded acked tried end → length found.bytes ≤ 2 ^ 40 → HoldsPresent found.landing ever → HasState found.bytes state → Stands table ever state

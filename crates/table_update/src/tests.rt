@@ -1,10 +1,11 @@
 // Updates over devices in memory: what is taken, what is refused, and what a crash leaves.
-ghost use Rattle.std.specs.Prelude.{◌≡◌, true, IfOk};
+ghost use Rattle.std.specs.Prelude.{◌≡◌, true, IfOk, slice_get};
 ghost use Rattle.disk_model.specs.Disk.{IsHonest};
 ghost use Rattle.disk_model.specs.MemDisk.{mem_state};
 ghost use Rattle.line_rows.specs.Lines.{keeps_text};
+ghost use Rattle.table_update.specs.Table.{is_of_kind, is_sound};
 
-use crate::{AppendTable, UpdateEnd, update};
+use crate::{AppendTable, Output, Outputs, UpdateEnd, update};
 use disk_model::{MemDisk, Pick, Side, SureDisk};
 use landing_core::{MemLanding, SureLanding};
 use std::alloc::{AllocError, Global};
@@ -17,16 +18,30 @@ use value_core::{Column, Cursor, Format, Kind, Name, Rows, Schema, Shape, Text, 
 const ROOM: u64 = 1024;
 
 /// A column of a name and a kind.
-fn column(alloc: Global, name: &str, kind: Kind) -> Result<Column, AllocError> {
+fn column(alloc: Global, name: &str, kind: Kind) -> Result<Column, AllocError>
+    ensures { IfOk result (λ column. column.kind ≡ kind) }
+{
     Ok(Column {
         name: Name::new(alloc, name)?,
         kind,
     })
 }
 
+/// An output that takes the column at a place, under a name.
+fn output(alloc: Global, place: usize, name: &str, kind: Kind) -> Result<Output, AllocError>
+    ensures { IfOk result (λ output. (output.place ≡ place) × (output.column.kind ≡ kind)) }
+{
+    Ok(Output {
+        place,
+        column: column(alloc, name, kind)?,
+    })
+}
+
 /// A line of JSON has one member, `a`.
+#[tactic(auto, using(crate::proofs::RowLemmas::same_kind_itself))]
 fn numbers(alloc: Global, kind: Kind) -> Result<Shape, AllocError>
-    ensures { IfOk result (λ shape. keeps_text shape ≡ true) }
+    ensures text { IfOk result (λ shape. keeps_text shape ≡ true) }
+    ensures kind { IfOk result (λ shape. is_of_kind (slice_get shape.columns 0) kind ≡ true) }
 {
     let mut columns = Schema::new(alloc);
     columns.push(column(alloc, "a", kind)?)?;
@@ -40,22 +55,38 @@ fn numbers(alloc: Global, kind: Kind) -> Result<Shape, AllocError>
 }
 
 /// A table of the folder `in`.
-fn table(alloc: Global, name: &str, text: &str, shape: Shape) -> Result<AppendTable, AllocError>
-    ensures { IfOk result (λ table. table.shape ≡ shape) }
+fn table(
+    alloc: Global,
+    name: &str,
+    text: &str,
+    shape: Shape,
+    outputs: Outputs,
+) -> Result<AppendTable, AllocError>
+    ensures { IfOk result (λ table. (table.shape ≡ shape) × (table.outputs ≡ outputs)) }
 {
     Ok(AppendTable {
         name: Name::new(alloc, name)?,
         text: Text::new(alloc, text)?,
         folder: Text::new(alloc, "in")?,
         shape,
+        outputs,
     })
+}
+
+/// A table with one column of this kind, `a`.
+fn one_column(alloc: Global, name: &str, text: &str, kind: Kind) -> Result<AppendTable, AllocError>
+    ensures { IfOk result (λ table. is_sound table ≡ true) }
+{
+    let mut outputs = Outputs::new(alloc);
+    outputs.push(output(alloc, 0, "a", kind)?)?;
+    table(alloc, name, text, numbers(alloc, kind)?, outputs)
 }
 
 /// The table `t` with the text `x` and one column, a BIGINT.
 fn t(alloc: Global) -> Result<AppendTable, AllocError>
-    ensures { IfOk result (λ table. keeps_text table.shape ≡ true) }
+    ensures { IfOk result (λ table. is_sound table ≡ true) }
 {
-    table(alloc, "t", "x", numbers(alloc, Kind::Big)?)
+    one_column(alloc, "t", "x", Kind::Big)
 }
 
 /// How an update ended, as a text.
@@ -168,14 +199,14 @@ fn take_step(
     table: &AppendTable,
     step: &Step,
 ) -> Result<(), Fail>
-    requires { keeps_text table.now.shape ≡ true }
+    requires { is_sound table.now ≡ true }
 {
     if step.grows {
         landing.grow("in", step.file, step.bytes)?;
     } else {
         landing.put("in", step.file, step.bytes)?;
     }
-    let end = update(alloc, disk, landing, table);
+    let end = update(alloc, disk, landing, Some(table));
     assert_eq!(rt; said(alloc, &end)?.as_str(), step.said);
     assert_eq!(rt; shown_on(alloc, disk)?.as_str(), step.shown);
     Ok(())
@@ -241,15 +272,15 @@ fn what_is_new_is_taken_once(rt: HostRuntime) -> Result<(), Fail> {
 
 /// `id INT, name STRING` and a rescued column, of CSV files with a header.
 fn people(alloc: Global) -> Result<Shape, AllocError>
-    ensures { IfOk result (λ shape. keeps_text shape ≡ true) }
+    ensures text { IfOk result (λ shape. keeps_text shape ≡ true) }
+    ensures id { IfOk result (λ shape. is_of_kind (slice_get shape.columns 0) Kind.Int ≡ true) }
+    ensures name { IfOk result (λ shape. is_of_kind (slice_get shape.columns 1) Kind.Str ≡ true) }
+    ensures rescued { IfOk result (λ shape. is_of_kind (slice_get shape.columns 2) Kind.Str ≡ true) }
 {
     let mut columns = Schema::new(alloc);
     columns.push(column(alloc, "id", Kind::Int)?)?;
     columns.push(column(alloc, "name", Kind::Str)?)?;
-    columns.push(Column {
-        name: Name::new(alloc, "_rescued_data")?,
-        kind: Kind::Str,
-    })?;
+    columns.push(column(alloc, "_rescued_data", Kind::Str)?)?;
     Ok(Shape {
         format: Format::Csv,
         columns,
@@ -257,6 +288,17 @@ fn people(alloc: Global) -> Result<Shape, AllocError>
         header: true,
         sep: b',',
     })
+}
+
+/// Its columns in order.
+fn all_of_people(alloc: Global) -> Result<AppendTable, AllocError>
+    ensures { IfOk result (λ table. is_sound table ≡ true) }
+{
+    let mut outputs = Outputs::new(alloc);
+    outputs.push(output(alloc, 0, "id", Kind::Int)?)?;
+    outputs.push(output(alloc, 1, "name", Kind::Str)?)?;
+    outputs.push(output(alloc, 2, "_rescued_data", Kind::Str)?)?;
+    table(alloc, "t", "x", people(alloc)?, outputs)
 }
 
 const CSV_STEPS: [Step; 3] = [
@@ -288,8 +330,55 @@ fn lines_stand_under_the_head_of_their_file(rt: HostRuntime) -> Result<(), Fail>
     let alloc = rt.alloc();
     let mut disk = SureDisk::new(alloc, &[], &[], ROOM)?;
     let mut landing = SureLanding::new(alloc);
-    let table = table(alloc, "t", "x", people(alloc)?)?;
+    let table = all_of_people(alloc)?;
     for next in &CSV_STEPS {
+        take_step(&rt, alloc, &mut disk, &mut landing, &table, next)?;
+    }
+    Ok(())
+}
+
+/// The rescued line and `id`, and `id` once more as `key`; `name` is left out.
+fn some_of_people(alloc: Global) -> Result<AppendTable, AllocError>
+    ensures { IfOk result (λ table. is_sound table ≡ true) }
+{
+    let mut outputs = Outputs::new(alloc);
+    outputs.push(output(alloc, 2, "_rescued_data", Kind::Str)?)?;
+    outputs.push(output(alloc, 0, "id", Kind::Int)?)?;
+    outputs.push(output(alloc, 0, "key", Kind::Int)?)?;
+    table(alloc, "t", "x", people(alloc)?, outputs)
+}
+
+const OUTPUT_STEPS: [Step; 3] = [
+    Step {
+        grows: false,
+        file: "p.csv",
+        bytes: b"name,id\nAnn,2\nBob,x\n",
+        said: "completed 2, version 1",
+        shown: "+-|2|2|;'Bob,x|-|-|;read p.csv 20",
+    },
+    Step {
+        grows: true,
+        file: "p.csv",
+        bytes: b"Eve,1,more\n",
+        said: "completed 1, version 2",
+        shown: "+-|2|2|;'Bob,x|-|-|;+'Eve,1,more|1|1|;read p.csv 31",
+    },
+    Step {
+        grows: true,
+        file: "p.csv",
+        bytes: b"Dan,7\nCid,3\n",
+        said: "completed 2, version 3",
+        shown: "+-|2|2|;'Bob,x|-|-|;+'Eve,1,more|1|1|;+-|3|3|;-|7|7|;read p.csv 43",
+    },
+];
+
+#[test]
+fn outputs_take_their_columns(rt: HostRuntime) -> Result<(), Fail> {
+    let alloc = rt.alloc();
+    let mut disk = SureDisk::new(alloc, &[], &[], ROOM)?;
+    let mut landing = SureLanding::new(alloc);
+    let table = some_of_people(alloc)?;
+    for next in &OUTPUT_STEPS {
         take_step(&rt, alloc, &mut disk, &mut landing, &table, next)?;
     }
     Ok(())
@@ -304,8 +393,8 @@ fn said_of(
     text: &str,
     kind: Kind,
 ) -> Result<String, AllocError> {
-    let other = table(alloc, name, text, numbers(alloc, kind)?)?;
-    let end = update(alloc, disk, landing, &other);
+    let other = one_column(alloc, name, text, kind)?;
+    let end = update(alloc, disk, landing, Some(&other));
     said(alloc, &end)
 }
 
@@ -335,6 +424,35 @@ fn another_definition_is_refused(rt: HostRuntime) -> Result<(), Fail> {
     Ok(())
 }
 
+/// What an update of a pipeline without a table says.
+fn said_without(
+    alloc: Global,
+    disk: &mut SureDisk,
+    landing: &mut SureLanding,
+) -> Result<String, AllocError> {
+    let end = update(alloc, disk, landing, None);
+    said(alloc, &end)
+}
+
+#[test]
+fn without_a_table_a_stored_dataset_is_removed(rt: HostRuntime) -> Result<(), Fail> {
+    let alloc = rt.alloc();
+    let mut disk = SureDisk::new(alloc, &[], &[], ROOM)?;
+    let mut landing = SureLanding::new(alloc);
+    assert_eq!(rt;
+        said_without(alloc, &mut disk, &mut landing)?.as_str(),
+        "current"
+    );
+    assert_eq!(rt; shown_on(alloc, &mut disk)?.as_str(), "");
+    let _end = update(alloc, &mut disk, &mut landing, Some(&t(alloc)?));
+    assert_eq!(rt;
+        said_without(alloc, &mut disk, &mut landing)?.as_str(),
+        "removed t"
+    );
+    assert_eq!(rt; shown_on(alloc, &mut disk)?.as_str(), "read");
+    Ok(())
+}
+
 /// A file of 19 bytes with one line.
 const LINE: &[u8] = b"{\"a\":           7}\n";
 
@@ -344,7 +462,7 @@ fn first_said(rt: &impl Abort, alloc: Global, left: &[u8], room: u64) -> Result<
     let mut disk = SureDisk::new(alloc, left, &[], room)?;
     let mut landing = SureLanding::new(alloc);
     landing.put("in", "f", LINE)?;
-    let end = update(alloc, &mut disk, &mut landing, &t(alloc)?);
+    let end = update(alloc, &mut disk, &mut landing, Some(&t(alloc)?));
     Ok(said(alloc, &end)?)
 }
 
@@ -396,8 +514,8 @@ fn said_failing(
     let mut disk = failing_disk(alloc, disk_call)?;
     let mut landing = failing_landing(alloc, landing_call)?;
     let table = t(alloc)?;
-    let first = update(alloc, &mut disk, &mut landing, &table);
-    let second = update(alloc, &mut disk, &mut landing, &table);
+    let first = update(alloc, &mut disk, &mut landing, Some(&table));
+    let second = update(alloc, &mut disk, &mut landing, Some(&table));
     Ok((said(alloc, &first)?, said(alloc, &second)?))
 }
 
@@ -458,7 +576,7 @@ fn goes_on_from(
     assert!(rt; image.len() as u64 <= ROOM);
     let mut disk = SureDisk::new(alloc, image, &[], ROOM)?;
     assert_eq!(rt; shown_on(alloc, &mut disk)?.as_str(), wanted);
-    let _end = update(alloc, &mut disk, landing, &t(alloc)?);
+    let _end = update(alloc, &mut disk, landing, Some(&t(alloc)?));
     assert_eq!(rt; shown_on(alloc, &mut disk)?.as_str(), "+7L|;read f 19");
     Ok(())
 }
@@ -490,7 +608,7 @@ fn a_crash_leaves_a_front_of_the_commits(rt: HostRuntime) -> Result<(), Fail> {
     let mut disk = failing_disk(alloc, 0)?;
     let mut landing = SureLanding::new(alloc);
     landing.put("in", "f", LINE)?;
-    let _end = update(alloc, &mut disk, &mut landing, &t(alloc)?);
+    let _end = update(alloc, &mut disk, &mut landing, Some(&t(alloc)?));
     assert!(rt; disk.calls() == 19);
     for moment in 0..=19 {
         for pick in [Pick::Old, Pick::New, Pick::Filled(0), Pick::Filled(0xA5)] {

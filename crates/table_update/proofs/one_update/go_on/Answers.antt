@@ -1,0 +1,14 @@
+use Rattle.store_core.specs.Store.{store_state}
+use Rattle.store_core.proofs.LoadLemmas.{left_state}
+use Rattle.table_update.proofs.CrashLemmas.{stores_still}
+use Rattle.table_update.proofs.RunLemmas.{ran_nothing}
+use Rattle.table_update.proofs.one_update.go_on.Goals as goal
+
+pub returns-in-None-clause-ran : goal.returns-in-None-clause-ran
+returns-in-None-clause-ran g c = λ told landed honest.
+    let disk = g.D.Disk.state c.args.disk.now in
+    let timed = g.D.Disk.tells_moments in
+    let store = c.args.store.now in
+    let left = c.requires.at_rest told in
+    rw c.in-None.is (ran_nothing timed (g.L.Landing.present c.args.landing.now) (g.D.Disk.room c.args.disk.now) c.nothing.result store disk c.nothing.ensures.ends
+    (stores_still timed (store_state store) disk (left_state store disk left)) left)
