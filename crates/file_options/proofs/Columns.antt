@@ -1,5 +1,5 @@
 -- The columns of a schema and the rescued one.
-use Rattle.std.proofs.Common.{◌≡◌, ℕ, zero, suc, ◌<◌, ◌==◌, Bool, true, false, cond, not, ◌||◌, List, [], ◌∷◌, ◌++◌, length, get_or, Option, Some, None, Ok, refl, sym, ap, ◌∙◌, arith}
+use Rattle.std.proofs.Common.{◌≡◌, ℕ, zero, suc, ◌<◌, ◌==◌, Bool, true, false, cond, not, ◌||◌, List, [], ◌∷◌, ◌++◌, length, get_or, Option, Some, None, Ok, Err, refl, sym, ap, ◌∙◌, arith}
 use Rattle.std.specs.Prelude.{is_some, ok_or, codes, option_and_then}
 use Rattle.std.specs.List.{list_any}
 use Rattle.std.proofs.lemmas.Bool.{and_parts, and_from, or_parts, or_from, both_ways, false_from_ne_true, not-true, not_from_false}
@@ -16,7 +16,7 @@ use Rattle.value_core.specs.NameFold.{folded, same_name}
 use Rattle.file_options.specs.declared.files.FilesRead.{FilesRead}
 use Rattle.file_options.specs.Options.{Word, set_to, separator_of, header_of, idle_word}
 use Rattle.file_options.specs.Schemas.{column, has_name, are_distinct, are_sound, if_sound, listed, columns_of, SchemaBy, SchemaOf, with_rescued}
-use Rattle.file_options.specs.Rules.{then_by, no_option, files_with, ended_by, HasDistinctNames, EndsInText}
+use Rattle.file_options.specs.Rules.{By, then_by, no_option, files_with, begun_by, ended_by, Ends, FilesBy, HasDistinctNames, EndsInText}
 
 -- ---- names
 
@@ -135,3 +135,12 @@ rescued_last dir format None options files e some = absurd (cc)
 rescued_last dir format (Some columns) options files e some =
     let is = ended_shape dir format columns options files e in
     text_last columns files.shape.columns (rescued_set options) is.0 (sym is.1 ∙ some)
+
+ends_text : (options : List SqlOption) (begun : By (List ℕ × Format)) (files : FilesRead) → Ends options begun (Ok files) →
+    files.shape.rescued ≡ true → EndsInText files.shape.columns
+ends_text options (Err word) files f some = absurd (cc)
+ends_text options (Ok begun) files f some = rescued_last begun.0 begun.1 f.0 options files (sym f.2) some
+
+pub read_text : (path : List ℕ) (options : List SqlOption) (files : FilesRead) → FilesBy path options (Ok files) →
+    files.shape.rescued ≡ true → EndsInText files.shape.columns
+read_text path options files f some = ends_text options (begun_by path options) files f.by_rules some

@@ -10,7 +10,7 @@ mod schema;
 
 pub use ending::OptionEnd;
 pub use files::{FilesRead, files_of};
-pub use laws::options_have_one_answer;
+pub use laws::{options_have_one_answer, rescued_columns_are_texts};
 
 #[cfg(test)]
 mod tests;

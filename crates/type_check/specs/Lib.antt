@@ -1,3 +1,4 @@
 pub mod Form
 pub mod Outputs
 pub mod Rules
+pub mod Texts

@@ -11,7 +11,7 @@ mod table;
 
 pub use checking::check;
 pub use fault::{CheckFault, CheckRefusal};
-pub use laws::{checked_plans_are_sound, statements_have_one_answer};
+pub use laws::{checked_plans_are_sound, checked_tables_keep_text, statements_have_one_answer};
 
 #[cfg(test)]
 mod tests;
