@@ -1,9 +1,12 @@
 -- A run has one end.
-use Rattle.std.proofs.Common.{◌≡◌, ◌≢◌, ◌⊎◌, inl, inr, ℕ, ◌<◌, ◌≤◌, ◌^◌, List, [], ◌∷◌, ◌++◌, length, take, refl, sym, ap, subst, ◌∙◌, Option, Some, None, Bool, append-nil, arith}
+use Rattle.std.proofs.Common.{◌≡◌, ◌≢◌, ◌⊎◌, inl, inr, ℕ, ◌<◌, ◌≤◌, ◌^◌, List, [], ◌∷◌, ◌++◌, length, take, refl, sym, ap, subst, ◌∙◌, Option, Some, None, Result, Ok, Bool, append-nil, arith}
 use Rattle.disk_model.specs.Faults.{Rose}
 use Rattle.commit_records.specs.declared.payload.Payload.{Payload}
 use Rattle.sql_tokens.specs.declared.error.SqlRefusal.{SqlRefusal}
 use Rattle.sql_tree.specs.declared.statement.Statement.{Statement}
+use Rattle.plan_core.specs.declared.plan.Dataset.{Dataset}
+use Rattle.type_check.specs.declared.fault.CheckFault.{CheckFault}
+use Rattle.type_check.specs.Rules.{Break, Checked, broken_at}
 use Rattle.pipeline_sql.specs.Read.{IsRead, IsRefused}
 use Rattle.store_core.specs.Reach.{EndsAt, IsLogEnd}
 use Rattle.table_update.specs.declared.end.UpdateEnd.{UpdateEnd}
@@ -12,45 +15,48 @@ use Rattle.table_update.specs.declared.table.AppendTable.{AppendTable}
 use Rattle.table_update.specs.Crash.{HasThem}
 use Rattle.table_update.specs.Ends as tables
 use Rattle.table_update.specs.Ends.{Alike, IsOwn}
+use Rattle.table_update.specs.Stands.{IsFor}
 use Rattle.table_update.specs.Update.{Found, Updates, IsSuccess, end_after}
 use Rattle.pipeline_run.specs.declared.command.Command.{Command}
 use Rattle.pipeline_run.specs.declared.command.Command.TheVariants.{Validate, Update}
 use Rattle.pipeline_run.specs.declared.outcome.Outcome.{Outcome}
-use Rattle.pipeline_run.specs.declared.outcome.Outcome.TheVariants.{Usage, TextFailed, Refused, NotSupported, Valid, Updated}
+use Rattle.pipeline_run.specs.declared.outcome.Outcome.TheVariants.{Usage, TextFailed, Refused, Broken, Valid, Updated}
 use Rattle.pipeline_run.specs.declared.outcome.Status.{Status}
 use Rattle.pipeline_run.specs.declared.outcome.Status.TheVariants as status
 use Rattle.pipeline_run.specs.Ends.{NothingFailed, RanWell, SameFile, SameEnd, NothingRefused, AreValidates, HaveOneUpdate}
-use Rattle.pipeline_run.specs.Pipeline.{the_pipeline, text_limit, HasStatements}
+use Rattle.pipeline_run.specs.Pipeline.{text_limit, HasStatements, HasPlan, IsBroken}
 use Rattle.pipeline_run.specs.Report.{status_of, status_of_end}
 use Rattle.pipeline_run.specs.Run.{Around, found_by, Counts, NoneFalls, Standing, IsIdle, IsUpdate, Comes, Blames, BlamesOf, IsTold, Tells, Executes, Runs, Refuses, Ran}
-use Rattle.pipeline_run.specs.Table.{the_table}
+use Rattle.pipeline_run.specs.Table.{name_of, plan_of, AsksFor}
 use Rattle.pipeline_run.specs.Update.{Ended, EndsWith, tried_by}
 use Rattle.pipeline_run.proofs.CrashLemmas.{tried_by_both}
 use Rattle.pipeline_run.proofs.RunLemmas.{success}
+use Rattle.pipeline_run.proofs.TableLemmas.{one_asked}
 
--- a text has one reading or one refusal, and not both
+-- a text has one reading or one refusal, and not both; and the checks of its statements give one answer
 pub record HasOneAnswer : Type 0 where
   pub one : (text : List ℕ) (p q : List Statement) → IsRead text p → IsRead text q → p ≡ q
   pub apart : (text : List ℕ) (p : List Statement) (refusal : SqlRefusal) → IsRead text p → IsRefused text refusal → ⊥
   pub refused : (text : List ℕ) (refusal other : SqlRefusal) → IsRefused text refusal → IsRefused text other → refusal ≡ other
+  pub checks : (statements : List Statement) (answer other : Result (List Dataset) Break) → Checked statements answer → Checked statements other → answer ≡ other
 
 -- an update has one end over one file, and over two that are taken for the same
 pub record HasOneEnd : Type 0 where
-  pub same : (table : AppendTable) (found : Found) (loaded also_loaded : Bool) (acked tried also_acked also_tried : List Payload) (end other : UpdateEnd) → length found.bytes ≤ 2 ^ 40
-      → Updates table found loaded acked tried end → Updates table found also_loaded also_acked also_tried other → IsOwn end → IsOwn other → (end ≡ other) × (tried ≡ also_tried)
-  pub alike : (table : AppendTable) (found also : Found) (loaded also_loaded : Bool) (acked tried also_acked also_tried : List Payload) (end other : UpdateEnd) → length found.bytes ≤ 2 ^ 40 → length also.bytes ≤ 2 ^ 40
+  pub same : (plan : Option AppendTable) (found : Found) (loaded also_loaded : Bool) (acked tried also_acked also_tried : List Payload) (end other : UpdateEnd) → length found.bytes ≤ 2 ^ 40
+      → Updates plan found loaded acked tried end → Updates plan found also_loaded also_acked also_tried other → IsOwn end → IsOwn other → (end ≡ other) × (tried ≡ also_tried)
+  pub alike : (plan : Option AppendTable) (found also : Found) (loaded also_loaded : Bool) (acked tried also_acked also_tried : List Payload) (end other : UpdateEnd) → length found.bytes ≤ 2 ^ 40 → length also.bytes ≤ 2 ^ 40
       → Alike found.bytes also.bytes → also.room ≡ found.room → also.landing ≡ found.landing
-      → Updates table found loaded acked tried end → Updates table also also_loaded also_acked also_tried other → IsOwn end → IsOwn other → (end ≡ other) × (tried ≡ also_tried)
-  pub settled : (table : AppendTable) (found : Found) (loaded : Bool) (acked tried : List Payload) (end : UpdateEnd) (image other : List ℕ) → length found.bytes ≤ 2 ^ 40
-      → Updates table found loaded acked tried end → IsSuccess end → HasThem found.bytes tried image → HasThem found.bytes tried other
+      → Updates plan found loaded acked tried end → Updates plan also also_loaded also_acked also_tried other → IsOwn end → IsOwn other → (end ≡ other) × (tried ≡ also_tried)
+  pub settled : (plan : Option AppendTable) (found : Found) (loaded : Bool) (acked tried : List Payload) (end : UpdateEnd) (image other : List ℕ) → length found.bytes ≤ 2 ^ 40
+      → Updates plan found loaded acked tried end → IsSuccess end → HasThem found.bytes tried image → HasThem found.bytes tried other
       → ((at : ℕ) → EndsAt at found.bytes → IsLogEnd (end_after at tried) image) → ((at : ℕ) → EndsAt at found.bytes → IsLogEnd (end_after at tried) other) → Alike image other
   pub settled_alike : (bytes also image other : List ℕ) (tried : List Payload) → Alike bytes also → HasThem bytes tried image → HasThem also tried other
       → ((at : ℕ) → EndsAt at bytes → IsLogEnd (end_after at tried) image) → ((at : ℕ) → EndsAt at also → IsLogEnd (end_after at tried) other) → Alike image other
 
 -- it succeeds where it has nothing to refuse
 abbrev pub Succeeds : Type 0
-Succeeds = (table : AppendTable) (found : Found) (loaded : Bool) (acked tried : List Payload) (end : UpdateEnd) → length found.bytes ≤ 2 ^ 40
-    → Updates table found loaded acked tried end → IsOwn end → tables.NothingRefused table found → IsSuccess end
+Succeeds = (plan : Option AppendTable) (found : Found) (loaded : Bool) (acked tried : List Payload) (end : UpdateEnd) → length found.bytes ≤ 2 ^ 40
+    → Updates plan found loaded acked tried end → IsOwn end → tables.NothingRefused plan found → IsSuccess end
 
 -- ---- updates from files that are taken for the same
 
@@ -62,25 +68,25 @@ record SameUpdate (ended second : Ended) (after also : List ℕ) : Type 0 where
   tried : ended.tried ≡ second.tried
   files : IsSuccess ended.end → SameFile after also
 
-same_update : HasOneEnd → (around : Around) (before was : List ℕ) (ended second : Ended) (after also : List ℕ) → SameFile before was → IsOwn ended.end → IsOwn second.end
-    → EndsWith (found_by around before) ended after → EndsWith (found_by around was) second also → SameUpdate ended second after also
-same_update law around before was ended second after also (inl same) own own_too is here =
-    let is_too : EndsWith (found_by around before) second also = subst (λ (bytes : List ℕ). EndsWith (found_by around bytes) second also) (sym same) here in
+same_update : HasOneEnd → (plan : Option AppendTable) (around : Around) (before was : List ℕ) (ended second : Ended) (after also : List ℕ) → SameFile before was → IsOwn ended.end → IsOwn second.end
+    → EndsWith plan (found_by around before) ended after → EndsWith plan (found_by around was) second also → SameUpdate ended second after also
+same_update law plan around before was ended second after also (inl same) own own_too is here =
+    let is_too : EndsWith plan (found_by around before) second also = subst (λ (bytes : List ℕ). EndsWith plan (found_by around bytes) second also) (sym same) here in
     let small = is.small (not_failed ended.end own) in
-    let both = law.same the_table (found_by around before) ended.loaded second.loaded ended.acked ended.tried second.acked second.tried ended.end second.end small is.updates is_too.updates own own_too in
+    let both = law.same plan (found_by around before) ended.loaded second.loaded ended.acked ended.tried second.acked second.tried ended.end second.end small is.updates is_too.updates own own_too in
     record {
       ends_same = both.0;
       tried = both.1;
       files = λ well.
           let well_too : IsSuccess second.end = subst IsSuccess both.0 well in
-          inr (law.settled the_table (found_by around before) ended.loaded ended.acked ended.tried ended.end after also small is.updates well (is.reads well)
+          inr (law.settled plan (found_by around before) ended.loaded ended.acked ended.tried ended.end after also small is.updates well (is.reads well)
           (subst (λ (tried : List Payload). HasThem before tried also) (sym both.1) (is_too.reads well_too)) (is.goes_on well)
           (subst (λ (tried : List Payload). (at : ℕ) → EndsAt at before → IsLogEnd (end_after at tried) also) (sym both.1) (is_too.goes_on well_too)));
     }
-same_update law around before was ended second after also (inr alike) own own_too is is_too =
+same_update law plan around before was ended second after also (inr alike) own own_too is is_too =
     let small = is.small (not_failed ended.end own) in
     let small_too = is_too.small (not_failed second.end own_too) in
-    let both = law.alike the_table (found_by around before) (found_by around was) ended.loaded second.loaded ended.acked ended.tried second.acked second.tried ended.end second.end small small_too alike refl refl is.updates is_too.updates own own_too in
+    let both = law.alike plan (found_by around before) (found_by around was) ended.loaded second.loaded ended.acked ended.tried second.acked second.tried ended.end second.end small small_too alike refl refl is.updates is_too.updates own own_too in
     record {
       ends_same = both.0;
       tried = both.1;
@@ -104,88 +110,145 @@ same_idle outcome other updates others before was after also same files idle idl
   files = λ ok. subst (λ (bytes : List ℕ). SameFile bytes also) (sym idle.1) (subst (λ (bytes : List ℕ). SameFile before bytes) (sym idle_too.1) files);
 }
 
-same_ended : HasOneEnd → (around : Around) (end other : UpdateEnd) (updates others : List Ended) (before was after also : List ℕ) → SameFile before was → IsOwn end → IsOwn other
-    → IsUpdate around end updates before after → IsUpdate around other others was also → SameOutcome (Updated end) (Updated other) updates others after also
-same_ended law around end other updates others before was after also files own own_too (ended, is, same_end, with_it) (second, is_too, same_too, with_too) =
-    let same = same_update law around before was ended second after also files (subst IsOwn (sym same_end) own) (subst IsOwn (sym same_too) own_too) with_it with_too in
+same_ended : HasOneEnd → (plan : Option AppendTable) (around : Around) (end other : UpdateEnd) (updates others : List Ended) (before was after also : List ℕ) → SameFile before was → IsOwn end → IsOwn other
+    → IsUpdate plan around end updates before after → IsUpdate plan around other others was also → SameOutcome (Updated (name_of plan) end) (Updated (name_of plan) other) updates others after also
+same_ended law plan around end other updates others before was after also files own own_too (ended, is, same_end, with_it) (second, is_too, same_too, with_too) =
+    let same = same_update law plan around before was ended second after also files (subst IsOwn (sym same_end) own) (subst IsOwn (sym same_too) own_too) with_it with_too in
     record {
-      outcomes = ap Updated (sym same_end ∙ same.ends_same ∙ same_too);
+      outcomes = ap (Updated (name_of plan)) (sym same_end ∙ same.ends_same ∙ same_too);
       tried = ap tried_by is ∙ ap (λ (tried : List Payload). tried ++ []) same.tried ∙ sym (ap tried_by is_too);
       files = λ ok. same.files (subst IsSuccess (sym same_end) (success end ok));
     }
+
+-- ---- what a text comes to
+
+data Way : Type 0 where
+  RefusedText : SqlRefusal → Way
+  BrokenText : ℕ → CheckFault → Way
+  PlanText : List Dataset → Way
+
+abbrev IsWay : List ℕ → Way → Type 0
+IsWay text (RefusedText refusal) = IsRefused (take text_limit text) refusal
+IsWay text (BrokenText statement fault) = IsBroken text statement fault
+IsWay text (PlanText plan) = HasPlan text plan
+
+-- two answers of the checks of one text are one
+one_answer : HasOneAnswer → (text : List ℕ) (first second : List Statement) (answer other : Result (List Dataset) Break) → HasStatements text first → HasStatements text second
+    → Checked first answer → Checked second other → answer ≡ other
+unfolding HasStatements
+one_answer law text first second answer other has has_too checked checked_too =
+    let same = law.one (take text_limit text) second first has_too has in
+    law.checks first answer other checked (subst (λ (statements : List Statement). Checked statements other) same checked_too)
+
+not_refused : HasOneAnswer → (text : List ℕ) (statements : List Statement) (refusal : SqlRefusal) → HasStatements text statements → IsRefused (take text_limit text) refusal → ⊥
+unfolding HasStatements
+not_refused law text statements refusal has is = law.apart (take text_limit text) statements refusal has is
+
+abbrev break_of : ℕ → CheckFault → Break
+break_of statement fault = record { statement = statement; fault = fault }
+
+one_way : HasOneAnswer → (text : List ℕ) (way other : Way) → IsWay text way → IsWay text other → way ≡ other
+one_way law text (RefusedText r) (RefusedText s) p q = ap RefusedText (law.refused (take text_limit text) r s p q)
+one_way law text (RefusedText r) (BrokenText n f) p q = absurd (not_refused law text q.statements r q.has p)
+one_way law text (RefusedText r) (PlanText plan) p q = absurd (not_refused law text q.statements r q.has p)
+one_way law text (BrokenText n f) (RefusedText s) p q = absurd (not_refused law text p.statements s p.has q)
+one_way law text (BrokenText n f) (BrokenText m g) p q =
+    let same = one_answer law text p.statements q.statements (broken_at n f) (broken_at m g) p.has q.has p.checked q.checked in
+    let break_is : break_of n f ≡ break_of m g = cc same in
+    ap (λ (broken : Break). BrokenText broken.statement broken.fault) break_is
+one_way law text (BrokenText n f) (PlanText plan) p q =
+    absurd (let same = one_answer law text p.statements q.statements (broken_at n f) (Ok plan) p.has q.has p.checked q.checked in cc same)
+one_way law text (PlanText plan) (RefusedText s) p q = absurd (not_refused law text p.statements s p.has q)
+one_way law text (PlanText plan) (BrokenText m g) p q =
+    absurd (let same = one_answer law text p.statements q.statements (Ok plan) (broken_at m g) p.has q.has p.checked q.checked in cc same)
+one_way law text (PlanText plan) (PlanText other) p q =
+    let same = one_answer law text p.statements q.statements (Ok plan) (Ok other) p.has q.has p.checked q.checked in
+    cc same
+
+-- a text has one plan
+pub one_plan : HasOneAnswer → (text : List ℕ) (plan other : List Dataset) → HasPlan text plan → HasPlan text other → plan ≡ other
+one_plan law text plan other p q =
+    let same = one_answer law text p.statements q.statements (Ok plan) (Ok other) p.has q.has p.checked q.checked in
+    cc same
+
+pub one_table : HasOneAnswer → (text : List ℕ) (asked other : Option AppendTable) → HasPlan text (plan_of asked) → HasPlan text (plan_of other) → asked ≡ other
+one_table law text asked other p q = one_asked asked other (one_plan law text (plan_of asked) (plan_of other) p q)
+
+pub asks_for_one : HasOneAnswer → (text : List ℕ) (table : AppendTable) → HasPlan text (plan_of (Some table)) → AsksFor text table
+asks_for_one law text table has asked has_too = subst (λ (plan : Option AppendTable). IsFor plan table) (one_table law text (Some table) asked has has_too) refl
+
+pub asks_for_none : HasOneAnswer → (text : List ℕ) (table : AppendTable) → HasPlan text [] → AsksFor text table
+asks_for_none law text table has asked has_too = subst (λ (plan : Option AppendTable). IsFor plan table) (one_table law text None asked has has_too) tt
 
 -- ---- how a command ends where no device fails
 
 -- an outcome that blames no device, nor want of memory
 abbrev IsBlameless : Outcome → Type 0
 IsBlameless TextFailed = ⊥
-IsBlameless (Updated end) = IsOwn end
+IsBlameless (Updated table end) = IsOwn end
 IsBlameless outcome = Unit {0}
 
-data Way : Type 0 where
-  RefusedText : SqlRefusal → Way
-  OtherText : List Statement → Way
-  ValidText : List Statement → Way
-  UpdatedSo : UpdateEnd → Way
+-- an update of a plan came to this outcome
+record GoesOn (around : Around) (datasets : List Dataset) (outcome : Outcome) (updates : List Ended) (before after : List ℕ) : Type 0 where
+  plan : Option AppendTable
+  end : UpdateEnd
+  of_plan : datasets ≡ plan_of plan
+  is : outcome ≡ Updated (name_of plan) end
+  own : IsOwn end
+  update : IsUpdate plan around end updates before after
 
 abbrev Goes : Command → Around → Way → Outcome → List Ended → List ℕ → List ℕ → Type 0
-Goes Validate around (RefusedText refusal) outcome updates before after = IsRefused (take text_limit around.text) refusal × (outcome ≡ Refused refusal) × IsIdle updates before after
-Goes Validate around (ValidText statements) outcome updates before after = HasStatements around.text statements × (outcome ≡ Valid) × IsIdle updates before after
-Goes Validate around way outcome updates before after = ⊥
-Goes Update around (RefusedText refusal) outcome updates before after = IsRefused (take text_limit around.text) refusal × (outcome ≡ Refused refusal) × IsIdle updates before after
-Goes Update around (OtherText statements) outcome updates before after =
-    HasStatements around.text statements × (statements ≢ the_pipeline) × (outcome ≡ NotSupported) × IsIdle updates before after
-Goes Update around (UpdatedSo end) outcome updates before after = HasStatements around.text the_pipeline × (outcome ≡ Updated end) × IsOwn end × IsUpdate around end updates before after
-Goes Update around way outcome updates before after = ⊥
+Goes command around (RefusedText refusal) outcome updates before after = (outcome ≡ Refused refusal) × IsIdle updates before after
+Goes command around (BrokenText statement fault) outcome updates before after = (outcome ≡ Broken statement fault) × IsIdle updates before after
+Goes Validate around (PlanText plan) outcome updates before after = (outcome ≡ Valid plan) × IsIdle updates before after
+Goes Update around (PlanText plan) outcome updates before after = GoesOn around plan outcome updates before after
 
-way_of : (command : Command) (around : Around) (outcome : Outcome) (updates : List Ended) (before after : List ℕ) → IsBlameless outcome → Comes command around outcome updates before after → (way : Way) × Goes command around way outcome updates before after
+record HasWay (command : Command) (around : Around) (outcome : Outcome) (updates : List Ended) (before after : List ℕ) : Type 0 where
+  way : Way
+  is : IsWay around.text way
+  goes : Goes command around way outcome updates before after
+
+way_of : (command : Command) (around : Around) (outcome : Outcome) (updates : List Ended) (before after : List ℕ) → IsBlameless outcome → Comes command around outcome updates before after → HasWay command around outcome updates before after
 way_of Validate around Usage updates before after fine comes = absurd comes
 way_of Validate around TextFailed updates before after fine comes = absurd fine
-way_of Validate around (Refused refusal) updates before after fine comes = (RefusedText refusal, (comes.0, refl, comes.1))
-way_of Validate around NotSupported updates before after fine comes = absurd comes
-way_of Validate around Valid updates before after fine comes = (ValidText comes.0.0, (comes.0.1, refl, comes.1))
-way_of Validate around (Updated end) updates before after fine comes = absurd comes
+way_of Validate around (Refused refusal) updates before after fine comes = record { way = RefusedText refusal; is = comes.0; goes = (refl, comes.1) }
+way_of Validate around (Broken statement fault) updates before after fine comes = record { way = BrokenText statement fault; is = comes.0; goes = (refl, comes.1) }
+way_of Validate around (Valid plan) updates before after fine comes = record { way = PlanText plan; is = comes.0; goes = (refl, comes.1) }
+way_of Validate around (Updated table end) updates before after fine comes = absurd comes
 way_of Update around Usage updates before after fine comes = absurd comes
 way_of Update around TextFailed updates before after fine comes = absurd fine
-way_of Update around (Refused refusal) updates before after fine comes = (RefusedText refusal, (comes.0, refl, comes.1))
-way_of Update around NotSupported updates before after fine comes = (OtherText comes.0.0, (comes.0.1, comes.0.2, refl, comes.1))
-way_of Update around Valid updates before after fine comes = absurd comes
-way_of Update around (Updated end) updates before after fine comes = (UpdatedSo end, (comes.0, refl, fine, comes.1))
+way_of Update around (Refused refusal) updates before after fine comes = record { way = RefusedText refusal; is = comes.0; goes = (refl, comes.1) }
+way_of Update around (Broken statement fault) updates before after fine comes = record { way = BrokenText statement fault; is = comes.0; goes = (refl, comes.1) }
+way_of Update around (Valid plan) updates before after fine comes = absurd comes
+way_of Update around (Updated table end) updates before after fine comes = record {
+  way = PlanText (plan_of comes.0);
+  is = comes.1;
+  goes = record { plan = comes.0; end = end; of_plan = refl; is = ap (λ (name : Option (List ℕ)). Updated name end) comes.2; own = fine; update = comes.3 };
+}
 
-one_refusal : HasOneAnswer → (text : List ℕ) (refusal second : SqlRefusal) (outcome other : Outcome) → IsRefused text refusal → IsRefused text second → outcome ≡ Refused refusal → other ≡ Refused second → outcome ≡ other
-one_refusal law text refusal second outcome other is is_too p q = p ∙ ap Refused (law.refused text refusal second is is_too) ∙ sym q
+same_updated : HasOneEnd → (around : Around) (datasets : List Dataset) (outcome other : Outcome) (updates others : List Ended) (before was after also : List ℕ) → SameFile before was
+    → GoesOn around datasets outcome updates before after → GoesOn around datasets other others was also → SameOutcome outcome other updates others after also
+same_updated law around datasets outcome other updates others before was after also files p q =
+    let same : q.plan ≡ p.plan = one_asked q.plan p.plan (sym q.of_plan ∙ p.of_plan) in
+    let is_too : other ≡ Updated (name_of p.plan) q.end = q.is ∙ ap (λ (plan : Option AppendTable). Updated (name_of plan) q.end) same in
+    let update_too : IsUpdate p.plan around q.end others was also = subst (λ (plan : Option AppendTable). IsUpdate plan around q.end others was also) same q.update in
+    rw (p.is, is_too) (same_ended law p.plan around p.end q.end updates others before was after also files p.own q.own p.update update_too)
 
-updated_both : HasOneEnd → (around : Around) (end second : UpdateEnd) (outcome other : Outcome) (updates others : List Ended) (before was after also : List ℕ) → SameFile before was → outcome ≡ Updated end → other ≡ Updated second
-    → IsOwn end → IsOwn second → IsUpdate around end updates before after → IsUpdate around second others was also → SameOutcome outcome other updates others after also
-updated_both law around end second outcome other updates others before was after also files is is_too own own_too p q =
-    rw (is, is_too) (same_ended law around end second updates others before was after also files own own_too p q)
+-- two outcomes by one way
+same_goes : HasOneEnd → (command : Command) (around : Around) (way : Way) (outcome other : Outcome) (updates others : List Ended) (before was after also : List ℕ) → SameFile before was
+    → Goes command around way outcome updates before after → Goes command around way other others was also → SameOutcome outcome other updates others after also
+same_goes law Validate around (RefusedText r) outcome other updates others before was after also files p q = same_idle outcome other updates others before was after also (p.0 ∙ sym q.0) files p.1 q.1
+same_goes law Validate around (BrokenText n f) outcome other updates others before was after also files p q = same_idle outcome other updates others before was after also (p.0 ∙ sym q.0) files p.1 q.1
+same_goes law Validate around (PlanText plan) outcome other updates others before was after also files p q = same_idle outcome other updates others before was after also (p.0 ∙ sym q.0) files p.1 q.1
+same_goes law Update around (RefusedText r) outcome other updates others before was after also files p q = same_idle outcome other updates others before was after also (p.0 ∙ sym q.0) files p.1 q.1
+same_goes law Update around (BrokenText n f) outcome other updates others before was after also files p q = same_idle outcome other updates others before was after also (p.0 ∙ sym q.0) files p.1 q.1
+same_goes law Update around (PlanText plan) outcome other updates others before was after also files p q = same_updated law around plan outcome other updates others before was after also files p q
 
-one_way : HasOneAnswer → HasOneEnd → (command : Command) (around : Around) (way route : Way) (outcome other : Outcome) (updates others : List Ended) (before was after also : List ℕ) → SameFile before was
-    → Goes command around way outcome updates before after → Goes command around route other others was also → SameOutcome outcome other updates others after also
-unfolding HasStatements
-one_way law one Validate around (RefusedText r) (RefusedText s) outcome other updates others before was after also files p q = same_idle outcome other updates others before was after also (one_refusal law (take text_limit around.text) r s outcome other p.0 q.0 p.1 q.1) files p.2 q.2
-one_way law one Validate around (RefusedText r) (OtherText s) outcome other updates others before was after also files p q = absurd q
-one_way law one Validate around (RefusedText r) (ValidText s) outcome other updates others before was after also files p q = absurd (law.apart (take text_limit around.text) s r q.0 p.0)
-one_way law one Validate around (RefusedText r) (UpdatedSo s) outcome other updates others before was after also files p q = absurd q
-one_way law one Validate around (OtherText r) route outcome other updates others before was after also files p q = absurd p
-one_way law one Validate around (ValidText r) (RefusedText s) outcome other updates others before was after also files p q = absurd (law.apart (take text_limit around.text) r s p.0 q.0)
-one_way law one Validate around (ValidText r) (OtherText s) outcome other updates others before was after also files p q = absurd q
-one_way law one Validate around (ValidText r) (ValidText s) outcome other updates others before was after also files p q = same_idle outcome other updates others before was after also (p.1 ∙ sym q.1) files p.2 q.2
-one_way law one Validate around (ValidText r) (UpdatedSo s) outcome other updates others before was after also files p q = absurd q
-one_way law one Validate around (UpdatedSo r) route outcome other updates others before was after also files p q = absurd p
-one_way law one Update around (RefusedText r) (RefusedText s) outcome other updates others before was after also files p q = same_idle outcome other updates others before was after also (one_refusal law (take text_limit around.text) r s outcome other p.0 q.0 p.1 q.1) files p.2 q.2
-one_way law one Update around (RefusedText r) (OtherText s) outcome other updates others before was after also files p q = absurd (law.apart (take text_limit around.text) s r q.0 p.0)
-one_way law one Update around (RefusedText r) (ValidText s) outcome other updates others before was after also files p q = absurd q
-one_way law one Update around (RefusedText r) (UpdatedSo s) outcome other updates others before was after also files p q = absurd (law.apart (take text_limit around.text) the_pipeline r q.0 p.0)
-one_way law one Update around (OtherText r) (RefusedText s) outcome other updates others before was after also files p q = absurd (law.apart (take text_limit around.text) r s p.0 q.0)
-one_way law one Update around (OtherText r) (OtherText s) outcome other updates others before was after also files p q = same_idle outcome other updates others before was after also (p.2 ∙ sym q.2) files p.3 q.3
-one_way law one Update around (OtherText r) (ValidText s) outcome other updates others before was after also files p q = absurd q
-one_way law one Update around (OtherText r) (UpdatedSo s) outcome other updates others before was after also files p q = absurd (p.1 (law.one (take text_limit around.text) r the_pipeline p.0 q.0))
-one_way law one Update around (ValidText r) route outcome other updates others before was after also files p q = absurd p
-one_way law one Update around (UpdatedSo r) (RefusedText s) outcome other updates others before was after also files p q = absurd (law.apart (take text_limit around.text) the_pipeline s p.0 q.0)
-one_way law one Update around (UpdatedSo r) (OtherText s) outcome other updates others before was after also files p q = absurd (q.1 (law.one (take text_limit around.text) s the_pipeline q.0 p.0))
-one_way law one Update around (UpdatedSo r) (ValidText s) outcome other updates others before was after also files p q = absurd q
-one_way law one Update around (UpdatedSo r) (UpdatedSo s) outcome other updates others before was after also files p q = updated_both one around r s outcome other updates others before was after also files p.1 q.1 p.2 q.2 p.3 q.3
+same_way : HasOneAnswer → HasOneEnd → (command : Command) (around : Around) (outcome other : Outcome) (updates others : List Ended) (before was after also : List ℕ) → SameFile before was
+    → HasWay command around outcome updates before after → HasWay command around other others was also → SameOutcome outcome other updates others after also
+same_way law one command around outcome other updates others before was after also files p q =
+    let same : q.way ≡ p.way = one_way law around.text q.way p.way q.is p.is in
+    same_goes one command around p.way outcome other updates others before was after also files p.goes (subst (λ (way : Way). Goes command around way other others was also) same q.goes)
 
 -- ---- no failure on the way
 
@@ -251,15 +314,15 @@ own_end _ old new fine blames ne = tt
 
 blameless : (outcome : Outcome) (old new : Standing) → NothingFailed old new → Blames old.faults new.faults outcome → (status_of outcome ≡ status.Memory → ⊥) → IsBlameless outcome
 blameless TextFailed old new fine blames ne = fine.text blames
-blameless (Updated end) old new fine blames ne = own_end end old new fine blames ne
+blameless (Updated table end) old new fine blames ne = own_end end old new fine blames ne
 blameless Usage old new fine blames ne = tt
 blameless (Refused refusal) old new fine blames ne = tt
-blameless NotSupported old new fine blames ne = tt
-blameless Valid old new fine blames ne = tt
+blameless (Broken statement fault) old new fine blames ne = tt
+blameless (Valid plan) old new fine blames ne = tt
 
 -- the way of a command that was told
 gone : (first : Command) (around : Around) (given : Status) (updates : List Ended) (outcome : Outcome) (old mid : Standing) → NothingFailed old mid → given ≢ status.Memory → IsTold outcome given old mid → Blames old.faults mid.faults outcome
-    → Comes first around outcome updates old.file mid.file → (way : Way) × Goes first around way outcome updates old.file mid.file
+    → Comes first around outcome updates old.file mid.file → HasWay first around outcome updates old.file mid.file
 gone first around given updates outcome old mid fine ne is blames comes =
     way_of first around outcome updates old.file mid.file (blameless outcome old mid fine blames (λ memory. ne (is.status ∙ memory))) comes
 
@@ -273,7 +336,7 @@ same_command law one first around given also updates others old was mid far file
     let is_too = told other also was far does_too.tells fine_too ne_too in
     let way = gone first around given updates outcome old mid fine ne is does.blames does.comes in
     let route = gone first around also others other was far fine_too ne_too is_too does_too.blames does_too.comes in
-    let same = one_way law one first around way.0 route.0 outcome other updates others old.file was.file mid.file far.file files way.1 route.1 in
+    let same = same_way law one first around outcome other updates others old.file was.file mid.file far.file files way route in
     same_told outcome other given also updates others old was mid far same prints is is_too
 
 is_ok : (given : Status) → given ≡ status.Ok → given ≢ status.Memory
@@ -351,63 +414,65 @@ ok_of_success ends.Current well = refl
 ok_of_success (ends.Completed read version) well = refl
 ok_of_success _ well = absurd well
 
-ok_of_ended : Succeeds → (around : Around) (file after : List ℕ) (end : UpdateEnd) (updates : List Ended) → NothingRefused around file → IsOwn end → IsUpdate around end updates file after → status_of (Updated end) ≡ status.Ok
-ok_of_ended succeeds around file after end updates none own (ended, is, same, with_it) =
+ok_of_ended : Succeeds → (plan : Option AppendTable) (around : Around) (file after : List ℕ) (end : UpdateEnd) (updates : List Ended) → tables.NothingRefused plan (found_by around file) → IsOwn end → IsUpdate plan around end updates file after
+    → status_of_end end ≡ status.Ok
+ok_of_ended succeeds plan around file after end updates none own (ended, is, same, with_it) =
     let own_too : IsOwn ended.end = subst IsOwn (sym same) own in
-    ok_of_success end (subst IsSuccess same (succeeds the_table (found_by around file) ended.loaded ended.acked ended.tried ended.end (with_it.small (not_failed ended.end own_too)) with_it.updates own_too none.takes))
+    ok_of_success end (subst IsSuccess same (succeeds plan (found_by around file) ended.loaded ended.acked ended.tried ended.end (with_it.small (not_failed ended.end own_too)) with_it.updates own_too none))
 
-ok_of_update_way : HasOneAnswer → Succeeds → (around : Around) (file after : List ℕ) (updates : List Ended) (given : Status) (outcome : Outcome) → NothingRefused around file → (way : Way) → Goes Update around way outcome updates file after
+ok_of_goes_on : Succeeds → (around : Around) (file after : List ℕ) (updates : List Ended) (outcome : Outcome) (plan : Option AppendTable) → tables.NothingRefused plan (found_by around file) → GoesOn around (plan_of plan) outcome updates file after → status_of outcome ≡ status.Ok
+ok_of_goes_on succeeds around file after updates outcome plan none on =
+    let same : on.plan ≡ plan = one_asked on.plan plan (sym on.of_plan) in
+    ap status_of on.is ∙ ok_of_ended succeeds plan around file after on.end updates none on.own (subst (λ (given : Option AppendTable). IsUpdate given around on.end updates file after) same on.update)
+
+ok_of_update_way : HasOneAnswer → Succeeds → (around : Around) (file after : List ℕ) (updates : List Ended) (given : Status) (outcome : Outcome) → NothingRefused around file → HasWay Update around outcome updates file after
     → given ≡ status_of outcome → given ≡ status.Ok
-unfolding HasStatements
-ok_of_update_way law succeeds around file after updates given outcome none (RefusedText r) is e = absurd (law.apart (take text_limit around.text) the_pipeline r none.accepted is.0)
-ok_of_update_way law succeeds around file after updates given outcome none (OtherText s) is e = absurd (is.1 (law.one (take text_limit around.text) s the_pipeline is.0 none.accepted))
-ok_of_update_way law succeeds around file after updates given outcome none (ValidText s) is e = absurd is
-ok_of_update_way law succeeds around file after updates given outcome none (UpdatedSo end) is e = e ∙ ap status_of is.1 ∙ ok_of_ended succeeds around file after end updates none is.2 is.3
+ok_of_update_way law succeeds around file after updates given outcome none has e =
+    let same : has.way ≡ PlanText (plan_of none.plan) = one_way law around.text has.way (PlanText (plan_of none.plan)) has.is none.checks in
+    e ∙ ok_of_goes_on succeeds around file after updates outcome none.plan none.takes (subst (λ (way : Way). Goes Update around way outcome updates file after) same has.goes)
 
 ok_of_update : HasOneAnswer → Succeeds → (around : Around) (updates : List Ended) (old mid : Standing) (given : Status) → NothingRefused around old.file → NothingFailed old mid → given ≢ status.Memory → Executes Update around given updates old mid → given ≡ status.Ok
 ok_of_update law succeeds around updates old mid given none fine ne (inr out) = absurd (ne out.0.status)
 ok_of_update law succeeds around updates old mid given none fine ne (inl (outcome, does)) =
     let is = told outcome given old mid does.tells fine ne in
     let way = gone Update around given updates outcome old mid fine ne is does.blames does.comes in
-    ok_of_update_way law succeeds around old.file mid.file updates given outcome none way.0 way.1 is.status
+    ok_of_update_way law succeeds around old.file mid.file updates given outcome none way is.status
 
-ok_of_validate_way : HasOneAnswer → (around : Around) (file after : List ℕ) (updates : List Ended) (statements : List Statement) (given : Status) (outcome : Outcome) → HasStatements around.text statements → (way : Way) → Goes Validate around way outcome updates file after
+ok_of_validate_way : HasOneAnswer → (around : Around) (file after : List ℕ) (updates : List Ended) (plan : List Dataset) (given : Status) (outcome : Outcome) → HasPlan around.text plan → HasWay Validate around outcome updates file after
     → given ≡ status_of outcome → given ≡ status.Ok
-unfolding HasStatements
-ok_of_validate_way law around file after updates statements given outcome has (RefusedText r) is e = absurd (law.apart (take text_limit around.text) statements r has is.0)
-ok_of_validate_way law around file after updates statements given outcome has (OtherText s) is e = absurd is
-ok_of_validate_way law around file after updates statements given outcome has (ValidText s) is e = e ∙ ap status_of is.1
-ok_of_validate_way law around file after updates statements given outcome has (UpdatedSo end) is e = absurd is
+ok_of_validate_way law around file after updates plan given outcome has way e =
+    let same : way.way ≡ PlanText plan = one_way law around.text way.way (PlanText plan) way.is has in
+    let goes : Goes Validate around (PlanText plan) outcome updates file after = subst (λ (each : Way). Goes Validate around each outcome updates file after) same way.goes in
+    e ∙ ap status_of goes.0
 
-ok_of_validate : HasOneAnswer → (around : Around) (updates : List Ended) (old mid : Standing) (statements : List Statement) (given : Status) → HasStatements around.text statements → NothingFailed old mid → given ≢ status.Memory → Executes Validate around given updates old mid
+ok_of_validate : HasOneAnswer → (around : Around) (updates : List Ended) (old mid : Standing) (plan : List Dataset) (given : Status) → HasPlan around.text plan → NothingFailed old mid → given ≢ status.Memory → Executes Validate around given updates old mid
     → given ≡ status.Ok
-ok_of_validate law around updates old mid statements given has fine ne (inr out) = absurd (ne out.0.status)
-ok_of_validate law around updates old mid statements given has fine ne (inl (outcome, does)) =
+ok_of_validate law around updates old mid plan given has fine ne (inr out) = absurd (ne out.0.status)
+ok_of_validate law around updates old mid plan given has fine ne (inl (outcome, does)) =
     let is = told outcome given old mid does.tells fine ne in
     let way = gone Validate around given updates outcome old mid fine ne is does.blames does.comes in
-    ok_of_validate_way law around old.file mid.file updates statements given outcome has way.0 way.1 is.status
+    ok_of_validate_way law around old.file mid.file updates plan given outcome has way is.status
 
-kept_by_way : (around : Around) (file after : List ℕ) (updates : List Ended) (outcome : Outcome) (way : Way) → Goes Validate around way outcome updates file after → after ≡ file
-kept_by_way around file after updates outcome (RefusedText r) is = is.2.1
-kept_by_way around file after updates outcome (OtherText s) is = absurd is
-kept_by_way around file after updates outcome (ValidText s) is = is.2.1
-kept_by_way around file after updates outcome (UpdatedSo end) is = absurd is
+kept_by_goes : (around : Around) (file after : List ℕ) (updates : List Ended) (outcome : Outcome) (way : Way) → Goes Validate around way outcome updates file after → after ≡ file
+kept_by_goes around file after updates outcome (RefusedText r) is = is.1.1
+kept_by_goes around file after updates outcome (BrokenText n f) is = is.1.1
+kept_by_goes around file after updates outcome (PlanText plan) is = is.1.1
 
 kept_by_validate : (around : Around) (updates : List Ended) (old mid : Standing) (given : Status) → NothingFailed old mid → given ≢ status.Memory → Executes Validate around given updates old mid → mid.file ≡ old.file
 kept_by_validate around updates old mid given fine ne (inr out) = out.0.file
 kept_by_validate around updates old mid given fine ne (inl (outcome, does)) =
     let is = told outcome given old mid does.tells fine ne in
     let way = gone Validate around given updates outcome old mid fine ne is does.blames does.comes in
-    kept_by_way around old.file mid.file updates outcome way.0 way.1
+    kept_by_goes around old.file mid.file updates outcome way.way way.goes
 
-ok_of_validates : HasOneAnswer → (commands : List Command) (around : Around) (answer : Status) (updates : List Ended) (old new : Standing) (statements : List Statement) → AreValidates commands → HasStatements around.text statements → NothingFailed old new
+ok_of_validates : HasOneAnswer → (commands : List Command) (around : Around) (answer : Status) (updates : List Ended) (old new : Standing) (plan : List Dataset) → AreValidates commands → HasPlan around.text plan → NothingFailed old new
     → answer ≢ status.Memory → Runs around commands answer updates old new → answer ≡ status.Ok
-ok_of_validates law [] around answer updates old new statements are has fine ne runs = runs.0
-ok_of_validates law (Update ∷ others) around answer updates old new statements are has fine ne runs = absurd are
-ok_of_validates law (Validate ∷ others) around answer updates old new statements are has fine ne (mid, given, own, tail, parts, executes, inl more) =
-    ok_of_validates law others around answer tail mid new statements are has (last_part old mid new fine (executes-later Validate around given own old mid executes)) ne more.1
-ok_of_validates law (Validate ∷ others) around answer updates old new statements are has fine ne (mid, given, own, tail, parts, executes, inr end) =
-    absurd (end.0 (ok_of_validate law around own old mid statements given has (subst (NothingFailed old) end.3 fine) (λ m. ne (end.1 ∙ m)) executes))
+ok_of_validates law [] around answer updates old new plan are has fine ne runs = runs.0
+ok_of_validates law (Update ∷ others) around answer updates old new plan are has fine ne runs = absurd are
+ok_of_validates law (Validate ∷ others) around answer updates old new plan are has fine ne (mid, given, own, tail, parts, executes, inl more) =
+    ok_of_validates law others around answer tail mid new plan are has (last_part old mid new fine (executes-later Validate around given own old mid executes)) ne more.1
+ok_of_validates law (Validate ∷ others) around answer updates old new plan are has fine ne (mid, given, own, tail, parts, executes, inr end) =
+    absurd (end.0 (ok_of_validate law around own old mid plan given has (subst (NothingFailed old) end.3 fine) (λ m. ne (end.1 ∙ m)) executes))
 
 ok_of_one_update : HasOneAnswer → Succeeds → (commands : List Command) (around : Around) (answer : Status) (updates : List Ended) (old new : Standing) → HaveOneUpdate commands → NothingRefused around old.file → NothingFailed old new → answer ≢ status.Memory
     → Runs around commands answer updates old new → answer ≡ status.Ok
@@ -417,9 +482,9 @@ ok_of_one_update law succeeds (Validate ∷ others) around answer updates old ne
     ok_of_one_update law succeeds others around answer tail mid new have (subst (λ (file : List ℕ). NothingRefused around file) (sym kept) none)
     (last_part old mid new fine (executes-later Validate around given own old mid executes)) ne more.1
 ok_of_one_update law succeeds (Validate ∷ others) around answer updates old new have none fine ne (mid, given, own, tail, parts, executes, inr end) =
-    absurd (end.0 (ok_of_validate law around own old mid the_pipeline given none.accepted (subst (NothingFailed old) end.3 fine) (λ m. ne (end.1 ∙ m)) executes))
+    absurd (end.0 (ok_of_validate law around own old mid (plan_of none.plan) given none.checks (subst (NothingFailed old) end.3 fine) (λ m. ne (end.1 ∙ m)) executes))
 ok_of_one_update law succeeds (Update ∷ others) around answer updates old new have none fine ne (mid, given, own, tail, parts, executes, inl more) =
-    ok_of_validates law others around answer tail mid new the_pipeline have none.accepted (last_part old mid new fine (executes-later Update around given own old mid executes)) ne more.1
+    ok_of_validates law others around answer tail mid new (plan_of none.plan) have none.checks (last_part old mid new fine (executes-later Update around given own old mid executes)) ne more.1
 ok_of_one_update law succeeds (Update ∷ others) around answer updates old new have none fine ne (mid, given, own, tail, parts, executes, inr end) =
     absurd (end.0 (ok_of_update law succeeds around own old mid given none (subst (NothingFailed old) end.3 fine) (λ m. ne (end.1 ∙ m)) executes))
 
@@ -428,7 +493,7 @@ pub ok_where_nothing_is_refused : HasOneAnswer → Succeeds → (commands : List
 ok_where_nothing_is_refused law succeeds commands around answer updates old new have well none =
     elim well.ran [ inl out ↦ absurd (well.memory out.0.status) | inr runs ↦ ok_of_one_update law succeeds commands around answer updates old new have none well.fine well.memory runs ]
 
-pub ok_where_the_text_reads : HasOneAnswer → (commands : List Command) (around : Around) (answer : Status) (updates : List Ended) (old new : Standing) (statements : List Statement) → AreValidates commands → RanWell (Some commands) around answer updates old new
-    → HasStatements around.text statements → answer ≡ status.Ok
-ok_where_the_text_reads law commands around answer updates old new statements are well has =
-    elim well.ran [ inl out ↦ absurd (well.memory out.0.status) | inr runs ↦ ok_of_validates law commands around answer updates old new statements are has well.fine well.memory runs ]
+pub ok_where_no_check_is_broken : HasOneAnswer → (commands : List Command) (around : Around) (answer : Status) (updates : List Ended) (old new : Standing) (plan : List Dataset) → AreValidates commands → RanWell (Some commands) around answer updates old new
+    → HasPlan around.text plan → answer ≡ status.Ok
+ok_where_no_check_is_broken law commands around answer updates old new plan are well has =
+    elim well.ran [ inl out ↦ absurd (well.memory out.0.status) | inr runs ↦ ok_of_validates law commands around answer updates old new plan are has well.fine well.memory runs ]

@@ -7,20 +7,23 @@ use Rattle.disk_model.specs.Disk.{DiskState}
 use Rattle.sql_tokens.specs.declared.error.SqlRefusal.{SqlRefusal}
 use Rattle.sql_tree.specs.declared.statement.Statement.{Statement}
 use Rattle.pipeline_sql.specs.Read.{IsRefused}
+use Rattle.plan_core.specs.declared.plan.Dataset.{Dataset}
+use Rattle.type_check.specs.declared.fault.CheckFault.{CheckFault}
 use Rattle.table_update.specs.declared.end.UpdateEnd.{UpdateEnd}
 use Rattle.table_update.specs.declared.end.UpdateEnd.TheVariants as ends
+use Rattle.table_update.specs.declared.table.AppendTable.{AppendTable}
 use Rattle.table_update.specs.Update.{IsSuccess}
 use Rattle.pipeline_run.specs.declared.command.Command.{Command}
 use Rattle.pipeline_run.specs.declared.command.Command.TheVariants.{Validate, Update}
 use Rattle.pipeline_run.specs.declared.outcome.Outcome.{Outcome}
-use Rattle.pipeline_run.specs.declared.outcome.Outcome.TheVariants.{Usage, TextFailed, Refused, NotSupported, Valid, Updated}
+use Rattle.pipeline_run.specs.declared.outcome.Outcome.TheVariants.{Usage, TextFailed, Refused, Broken, Valid, Updated}
 use Rattle.pipeline_run.specs.contracts.outcome.Status.{the_type}
 use Rattle.pipeline_run.specs.declared.outcome.Status.{Status}
 use Rattle.pipeline_run.specs.declared.outcome.Status.TheVariants as status
-use Rattle.pipeline_run.specs.Pipeline.{the_pipeline, text_limit, HasStatements, Knows}
+use Rattle.pipeline_run.specs.Pipeline.{text_limit, HasPlan, HasStatements, IsBroken, Knows}
 use Rattle.pipeline_run.specs.Crash.{HasOutcome, HasExecuted, HasRunAll, HasRun}
 use Rattle.pipeline_run.specs.Run.{Around, found_by, IsIdle, IsUpdate, Counts, NoneFalls, Standing, Comes, Blames, BlamesOf, Tells, Does, RunsOut, Executes, Runs, Refuses, Ran, IsTelling, IsOfCommands, AnswersUsage}
-use Rattle.pipeline_run.specs.Report.{status_of}
+use Rattle.pipeline_run.specs.Report.{status_of, status_of_end}
 use Rattle.pipeline_run.specs.Update.{Ended, acked_by, loaded_by}
 use Rattle.pipeline_run.proofs.CrashLemmas.{WentWell, SoFar, at_start, all_left, no_updates, leaves_on, well_on}
 use Rattle.pipeline_run.proofs.UpdateLemmas.{unloaded_acked, one_went_well, none_went_well}
@@ -41,13 +44,12 @@ kept_if_ok (Ok outcome) fact holds = λ ok. holds
 
 -- ---- one command
 
-pub outcome_of_validate : (timed : Type 0) (command : Command) (around : Around) (statements : List Statement) (disk : DiskState) → command ≡ Validate → HasStatements around.text statements → HasOutcome timed command around Valid disk disk
-outcome_of_validate timed Validate around statements disk is has = record { updates = []; comes = ((statements, has), (refl, refl)); leaves = no_updates timed disk }
-outcome_of_validate timed Update around statements disk is has = absurd cc
+pub outcome_of_validate : (timed : Type 0) (command : Command) (around : Around) (plan : List Dataset) (disk : DiskState) → command ≡ Validate → HasPlan around.text plan → HasOutcome timed command around (Valid plan) disk disk
+outcome_of_validate timed Validate around plan disk is has = record { updates = []; comes = (has, (refl, refl)); leaves = no_updates timed disk }
+outcome_of_validate timed Update around plan disk is has = absurd cc
 
-pub outcome_of_other : (timed : Type 0) (command : Command) (around : Around) (statements : List Statement) (disk : DiskState) → command ≡ Update → HasStatements around.text statements → statements ≢ the_pipeline → HasOutcome timed command around NotSupported disk disk
-outcome_of_other timed Validate around statements disk is has other = absurd cc
-outcome_of_other timed Update around statements disk is has other = record { updates = []; comes = ((statements, has, other), (refl, refl)); leaves = no_updates timed disk }
+pub outcome_broken : (timed : Type 0) (command : Command) (around : Around) (statement : ℕ) (fault : CheckFault) (disk : DiskState) → IsBroken around.text statement fault → HasOutcome timed command around (Broken statement fault) disk disk
+outcome_broken timed command around statement fault disk is = record { updates = []; comes = (is, (refl, refl)); leaves = no_updates timed disk }
 
 pub outcome_unread : (timed : Type 0) (command : Command) (around : Around) (disk : DiskState) → HasOutcome timed command around TextFailed disk disk
 outcome_unread timed command around disk = record { updates = []; comes = (refl, refl); leaves = no_updates timed disk }
@@ -61,30 +63,30 @@ blames_of before now ends.CommitFailed load commit landing = commit refl
 blames_of before now ends.LandingFailed load commit landing = landing refl
 blames_of before now _ load commit landing = tt
 
-pub blames : (before now : Counts) (outcome : Outcome) → (outcome ≡ TextFailed → Rose before.text now.text) → (outcome ≡ Updated ends.LoadFailed → Rose before.disk now.disk)
-    → (outcome ≡ Updated ends.CommitFailed → Rose before.disk now.disk) → (outcome ≡ Updated ends.LandingFailed → Rose before.landing now.landing) → Blames before now outcome
+pub blames : (before now : Counts) (outcome : Outcome) → (outcome ≡ TextFailed → Rose before.text now.text) → ((table : Option (List ℕ)) → outcome ≡ Updated table ends.LoadFailed → Rose before.disk now.disk)
+    → ((table : Option (List ℕ)) → outcome ≡ Updated table ends.CommitFailed → Rose before.disk now.disk) → ((table : Option (List ℕ)) → outcome ≡ Updated table ends.LandingFailed → Rose before.landing now.landing) → Blames before now outcome
 blames before now Usage text load commit landing = tt
 blames before now TextFailed text load commit landing = text refl
 blames before now (Refused refusal) text load commit landing = tt
-blames before now NotSupported text load commit landing = tt
-blames before now Valid text load commit landing = tt
-blames before now (Updated end) text load commit landing = blames_of before now end (λ e. load (ap Updated e)) (λ e. commit (ap Updated e)) (λ e. landing (ap Updated e))
+blames before now (Broken statement fault) text load commit landing = tt
+blames before now (Valid plan) text load commit landing = tt
+blames before now (Updated table end) text load commit landing = blames_of before now end (λ e. load table (ap (Updated table) e)) (λ e. commit table (ap (Updated table) e)) (λ e. landing table (ap (Updated table) e))
 
 -- an end whose status blames the disk is one of two
-disk_end : (end : UpdateEnd) (fact : Type 0) → status.Disk ≡ status_of (Updated end) → (end ≡ ends.LoadFailed → fact) → (end ≡ ends.CommitFailed → fact) → fact
-disk_end ends.LoadFailed fact is load commit = load refl
-disk_end ends.CommitFailed fact is load commit = commit refl
-disk_end _ fact is load commit = absurd cc
+disk_end : (table : Option (List ℕ)) (end : UpdateEnd) (fact : Type 0) → status.Disk ≡ status_of (Updated table end) → (end ≡ ends.LoadFailed → fact) → (end ≡ ends.CommitFailed → fact) → fact
+disk_end table ends.LoadFailed fact is load commit = load refl
+disk_end table ends.CommitFailed fact is load commit = commit refl
+disk_end table _ fact is load commit = absurd cc
 
-disk_outcome : (outcome : Outcome) (fact : Type 0) → status.Disk ≡ status_of outcome → (outcome ≡ Updated ends.LoadFailed → fact) → (outcome ≡ Updated ends.CommitFailed → fact) → fact
+disk_outcome : (outcome : Outcome) (fact : Type 0) → status.Disk ≡ status_of outcome → ((table : Option (List ℕ)) → outcome ≡ Updated table ends.LoadFailed → fact) → ((table : Option (List ℕ)) → outcome ≡ Updated table ends.CommitFailed → fact) → fact
 disk_outcome Usage fact is load commit = absurd cc
 disk_outcome TextFailed fact is load commit = absurd cc
 disk_outcome (Refused refusal) fact is load commit = absurd cc
-disk_outcome NotSupported fact is load commit = absurd cc
-disk_outcome Valid fact is load commit = absurd cc
-disk_outcome (Updated end) fact is load commit = disk_end end fact is (λ e. load (ap Updated e)) (λ e. commit (ap Updated e))
+disk_outcome (Broken statement fault) fact is load commit = absurd cc
+disk_outcome (Valid plan) fact is load commit = absurd cc
+disk_outcome (Updated table end) fact is load commit = disk_end table end fact is (λ e. load table (ap (Updated table) e)) (λ e. commit table (ap (Updated table) e))
 
-pub told_disk : (outcome : Outcome) (answer : Status) (fact : Type 0) → IsTelling outcome answer → answer ≡ status.Disk → (outcome ≡ Updated ends.LoadFailed → fact) → (outcome ≡ Updated ends.CommitFailed → fact) → fact
+pub told_disk : (outcome : Outcome) (answer : Status) (fact : Type 0) → IsTelling outcome answer → answer ≡ status.Disk → ((table : Option (List ℕ)) → outcome ≡ Updated table ends.LoadFailed → fact) → ((table : Option (List ℕ)) → outcome ≡ Updated table ends.CommitFailed → fact) → fact
 told_disk outcome status.Disk fact telling is load commit = disk_outcome outcome fact telling load commit
 told_disk outcome status.Ok fact telling is load commit = absurd cc
 told_disk outcome status.Usage fact telling is load commit = absurd cc
@@ -128,15 +130,15 @@ told_ok outcome status.Memory telling is = absurd cc
 
 -- ---- the updates of a command
 
-pub success : (end : UpdateEnd) → status_of (Updated end) ≡ status.Ok → IsSuccess end
+pub success : (end : UpdateEnd) → status_of_end end ≡ status.Ok → IsSuccess end
 success ends.Current ok = tt
 success (ends.Completed read version) ok = tt
 success _ ok = absurd cc
 
-ended_well : (around : Around) (end : UpdateEnd) (updates : List Ended) (before after : List ℕ) → status_of (Updated end) ≡ status.Ok → IsUpdate around end updates before after → WentWell updates before after
-ended_well around end updates before after ok (ended, is, same, with_it) =
+ended_well : (plan : Option AppendTable) (around : Around) (end : UpdateEnd) (updates : List Ended) (before after : List ℕ) → status_of_end end ≡ status.Ok → IsUpdate plan around end updates before after → WentWell updates before after
+ended_well plan around end updates before after ok (ended, is, same, with_it) =
     subst (λ (list : List Ended). WentWell list before after) (sym is)
-    (one_went_well (found_by around before) ended after with_it (subst IsSuccess (sym same) (success end ok)))
+    (one_went_well plan (found_by around before) ended after with_it (subst IsSuccess (sym same) (success end ok)))
 
 idled_well : (updates : List Ended) (before after : List ℕ) → IsIdle updates before after → WentWell updates before after
 idled_well updates before after idle =
@@ -144,18 +146,18 @@ idled_well updates before after idle =
     (subst (λ (bytes : List ℕ). WentWell [] before bytes) (sym idle.1) (none_went_well before))
 
 came_well : (command : Command) (around : Around) (outcome : Outcome) (updates : List Ended) (before after : List ℕ) → status_of outcome ≡ status.Ok → Comes command around outcome updates before after → WentWell updates before after
-came_well Validate around Valid updates before after ok comes = idled_well updates before after comes.1
+came_well Validate around (Valid plan) updates before after ok comes = idled_well updates before after comes.1
 came_well Validate around Usage updates before after ok comes = absurd cc
 came_well Validate around TextFailed updates before after ok comes = absurd cc
 came_well Validate around (Refused refusal) updates before after ok comes = absurd cc
-came_well Validate around NotSupported updates before after ok comes = absurd cc
-came_well Validate around (Updated end) updates before after ok comes = absurd comes
-came_well Update around Valid updates before after ok comes = absurd comes
+came_well Validate around (Broken statement fault) updates before after ok comes = absurd cc
+came_well Validate around (Updated table end) updates before after ok comes = absurd comes
+came_well Update around (Valid plan) updates before after ok comes = absurd comes
 came_well Update around Usage updates before after ok comes = absurd cc
 came_well Update around TextFailed updates before after ok comes = absurd cc
 came_well Update around (Refused refusal) updates before after ok comes = absurd cc
-came_well Update around NotSupported updates before after ok comes = absurd cc
-came_well Update around (Updated end) updates before after ok comes = ended_well around end updates before after ok comes.1
+came_well Update around (Broken statement fault) updates before after ok comes = absurd cc
+came_well Update around (Updated table end) updates before after ok comes = ended_well comes.0 around end updates before after ok comes.3
 
 told_well : (outcome : Outcome) (answer : Status) (old new : Standing) → Tells outcome answer old new → answer ≡ status.Ok → status_of outcome ≡ status.Ok
 told_well outcome answer old new (inl told) ok = sym told.status ∙ ok
@@ -168,25 +170,25 @@ executed_well command around given updates old mid (inr (out, none)) ok = absurd
 abbrev IsUnloaded : List Ended → Type 0
 IsUnloaded updates = loaded_by updates ≡ false → acked_by updates ≡ []
 
-ended_unloaded : (around : Around) (end : UpdateEnd) (updates : List Ended) (before after : List ℕ) → IsUpdate around end updates before after → IsUnloaded updates
-ended_unloaded around end updates before after (ended, is, same, with_it) = subst IsUnloaded (sym is) (unloaded_acked (found_by around before) ended after with_it)
+ended_unloaded : (plan : Option AppendTable) (around : Around) (end : UpdateEnd) (updates : List Ended) (before after : List ℕ) → IsUpdate plan around end updates before after → IsUnloaded updates
+ended_unloaded plan around end updates before after (ended, is, same, with_it) = subst IsUnloaded (sym is) (unloaded_acked plan (found_by around before) ended after with_it)
 
 idle_unloaded : (updates : List Ended) → updates ≡ [] → IsUnloaded updates
 idle_unloaded updates none = subst IsUnloaded (sym none) (λ unloaded. refl)
 
 came_unloaded : (command : Command) (around : Around) (outcome : Outcome) (updates : List Ended) (before after : List ℕ) → Comes command around outcome updates before after → IsUnloaded updates
-came_unloaded Validate around Valid updates before after comes = idle_unloaded updates comes.1.0
+came_unloaded Validate around (Valid plan) updates before after comes = idle_unloaded updates comes.1.0
 came_unloaded Validate around Usage updates before after comes = absurd comes
 came_unloaded Validate around TextFailed updates before after comes = idle_unloaded updates comes.0
 came_unloaded Validate around (Refused refusal) updates before after comes = idle_unloaded updates comes.1.0
-came_unloaded Validate around NotSupported updates before after comes = absurd comes
-came_unloaded Validate around (Updated end) updates before after comes = absurd comes
-came_unloaded Update around Valid updates before after comes = absurd comes
+came_unloaded Validate around (Broken statement fault) updates before after comes = idle_unloaded updates comes.1.0
+came_unloaded Validate around (Updated table end) updates before after comes = absurd comes
+came_unloaded Update around (Valid plan) updates before after comes = absurd comes
 came_unloaded Update around Usage updates before after comes = absurd comes
 came_unloaded Update around TextFailed updates before after comes = idle_unloaded updates comes.0
 came_unloaded Update around (Refused refusal) updates before after comes = idle_unloaded updates comes.1.0
-came_unloaded Update around NotSupported updates before after comes = idle_unloaded updates comes.1.0
-came_unloaded Update around (Updated end) updates before after comes = ended_unloaded around end updates before after comes.1
+came_unloaded Update around (Broken statement fault) updates before after comes = idle_unloaded updates comes.1.0
+came_unloaded Update around (Updated table end) updates before after comes = ended_unloaded comes.0 around end updates before after comes.3
 
 pub executed_unloaded : (command : Command) (around : Around) (given : Status) (updates : List Ended) (old mid : Standing) → Executes command around given updates old mid → loaded_by updates ≡ false → acked_by updates ≡ []
 executed_unloaded command around given updates old mid (inl (outcome, does)) = came_unloaded command around outcome updates old.file mid.file does.comes

@@ -1,11 +1,11 @@
 -- What follows from how an update ended.
-use Rattle.std.proofs.Common.{◌≡◌, ◌⊎◌, inl, inr, ℕ, List, [], ◌∷◌, ◌++◌, Bool, true, false, refl, sym, ap, subst, ◌∙◌, append-nil}
+use Rattle.std.proofs.Common.{◌≡◌, ◌⊎◌, inl, inr, ℕ, List, [], ◌∷◌, ◌++◌, Bool, true, false, Option, Some, None, refl, sym, ap, subst, ◌∙◌, append-nil}
 use Rattle.value_core.specs.declared.cursor.FilePlace.{FilePlace}
 use Rattle.landing_core.specs.declared.landing.LandingFile.{LandingFile}
 use Rattle.commit_records.specs.declared.payload.Payload.{Payload}
 use Rattle.store_state.specs.State.{Dataset, State}
 use Rattle.disk_model.specs.Disk.{DiskState}
-use Rattle.sql_tree.specs.declared.statement.Statement.{Statement}
+use Rattle.plan_core.specs.declared.plan.Dataset.{Dataset as Planned}
 use Rattle.table_update.specs.declared.end.UpdateEnd.{UpdateEnd}
 use Rattle.table_update.specs.declared.end.UpdateEnd.TheVariants as ends
 use Rattle.table_update.specs.declared.table.AppendTable.{AppendTable}
@@ -13,23 +13,23 @@ use Rattle.table_update.specs.Crash.{HasThem, Leaves, Updated as HasUpdated}
 use Rattle.table_update.specs.Flow.{FlowEnds}
 use Rattle.table_update.specs.Update.{Found, Flows, Runs, LoadedEnds, Updates, IsSuccess}
 use Rattle.pipeline_run.specs.declared.command.Command.{Command}
-use Rattle.pipeline_run.specs.declared.command.Command.TheVariants.{Validate, Update}
+use Rattle.pipeline_run.specs.declared.command.Command.TheVariants.{Update}
 use Rattle.pipeline_run.specs.declared.outcome.Outcome.{Outcome}
 use Rattle.pipeline_run.specs.declared.outcome.Outcome.TheVariants.{Updated}
 use Rattle.pipeline_run.specs.Crash.{LeavesAll, HasOutcome}
-use Rattle.pipeline_run.specs.Pipeline.{the_pipeline, HasStatements}
+use Rattle.pipeline_run.specs.Pipeline.{HasPlan}
 use Rattle.pipeline_run.specs.Run.{Around, found_by}
-use Rattle.pipeline_run.specs.Table.{the_table}
+use Rattle.pipeline_run.specs.Table.{name_of, plan_of}
 use Rattle.pipeline_run.specs.Update.{Ended, EndsWith, acked_by, tried_by, loaded_by, LoadFails}
 use Rattle.pipeline_run.proofs.CrashLemmas.{WentWell}
 
 -- an update that didn't load the store acknowledged nothing
-unloaded_none : (table : AppendTable) (found : Found) (loaded : Bool) (acked tried : List Payload) (end : UpdateEnd) → Updates table found loaded acked tried end → loaded ≡ false → acked ≡ []
-unloaded_none table found false acked tried end updates not_loaded = updates.1
-unloaded_none table found true acked tried end updates not_loaded = absurd cc
+unloaded_none : (plan : Option AppendTable) (found : Found) (loaded : Bool) (acked tried : List Payload) (end : UpdateEnd) → Updates plan found loaded acked tried end → loaded ≡ false → acked ≡ []
+unloaded_none plan found false acked tried end updates not_loaded = updates.1
+unloaded_none plan found true acked tried end updates not_loaded = absurd cc
 
-pub unloaded_acked : (found : Found) (ended : Ended) (after : List ℕ) → EndsWith found ended after → ended.loaded ≡ false → acked_by (ended ∷ []) ≡ []
-unloaded_acked found ended after is not_loaded = append-nil ended.acked ∙ unloaded_none the_table found ended.loaded ended.acked ended.tried ended.end is.updates not_loaded
+pub unloaded_acked : (plan : Option AppendTable) (found : Found) (ended : Ended) (after : List ℕ) → EndsWith plan found ended after → ended.loaded ≡ false → acked_by (ended ∷ []) ≡ []
+unloaded_acked plan found ended after is not_loaded = append-nil ended.acked ∙ unloaded_none plan found ended.loaded ended.acked ended.tried ended.end is.updates not_loaded
 
 -- ---- success
 
@@ -43,28 +43,29 @@ same_flow table files room at dataset places before acked tried ends.Current suc
 same_flow table files room at dataset places before acked tried (ends.Completed read version) success flow = flow.2 ∙ sym flow.3
 same_flow table files room at dataset places before acked tried _ success flow = absurd success
 
-same_loaded : (table : AppendTable) (files : List LandingFile) (room : ℕ) (state : State) (at : ℕ) (acked tried : List Payload) (end : UpdateEnd)
-    → IsSuccess end → LoadedEnds table files room state at acked tried end → acked ≡ tried
-same_loaded table files room state at acked tried end success (inl judged) = judged.1 ∙ sym judged.2
-same_loaded table files room state at acked tried ends.Current success (inr (inl defined)) = absurd defined.1
-same_loaded table files room state at acked tried (ends.Completed read version) success (inr (inl defined)) = absurd defined.1
-same_loaded table files room state at acked tried _ success (inr (inl defined)) = absurd success
-same_loaded table files room state at acked tried end success (inr (inr (inl first))) =
+same_loaded : (plan : Option AppendTable) (files : List LandingFile) (room : ℕ) (state : State) (at : ℕ) (acked tried : List Payload) (end : UpdateEnd)
+    → IsSuccess end → LoadedEnds plan files room state at acked tried end → acked ≡ tried
+same_loaded None files room state at acked tried end success ends = ends.1 ∙ sym ends.2
+same_loaded (Some table) files room state at acked tried end success (inl judged) = judged.1 ∙ sym judged.2
+same_loaded (Some table) files room state at acked tried ends.Current success (inr (inl defined)) = absurd defined.1
+same_loaded (Some table) files room state at acked tried (ends.Completed read version) success (inr (inl defined)) = absurd defined.1
+same_loaded (Some table) files room state at acked tried _ success (inr (inl defined)) = absurd success
+same_loaded (Some table) files room state at acked tried end success (inr (inr (inl first))) =
     let flows = first.2 in
     same_flow table files room _ flows.dataset flows.places _ acked tried end success flows.ends
-same_loaded table files room state at acked tried end success (inr (inr (inr later))) =
+same_loaded (Some table) files room state at acked tried end success (inr (inr (inr later))) =
     let flows = later.1 in
     same_flow table files room at flows.dataset flows.places _ acked tried end success flows.ends
 
-whole_if_well : (table : AppendTable) (found : Found) (loaded : Bool) (acked tried : List Payload) (end : UpdateEnd) → IsSuccess end → Updates table found loaded acked tried end → IsWhole loaded acked tried
-whole_if_well table found false acked tried ends.Current success updates = absurd updates.0
-whole_if_well table found false acked tried (ends.Completed read version) success updates = absurd updates.0
-whole_if_well table found false acked tried _ success updates = absurd success
-whole_if_well table found true acked tried end success updates = (refl, same_loaded table found.landing found.room updates.0 updates.1 acked tried end success updates.3)
+whole_if_well : (plan : Option AppendTable) (found : Found) (loaded : Bool) (acked tried : List Payload) (end : UpdateEnd) → IsSuccess end → Updates plan found loaded acked tried end → IsWhole loaded acked tried
+whole_if_well plan found false acked tried ends.Current success updates = absurd updates.0
+whole_if_well plan found false acked tried (ends.Completed read version) success updates = absurd updates.0
+whole_if_well plan found false acked tried _ success updates = absurd success
+whole_if_well plan found true acked tried end success updates = (refl, same_loaded plan found.landing found.room updates.0 updates.1 acked tried end success updates.3)
 
-pub one_went_well : (found : Found) (ended : Ended) (after : List ℕ) → EndsWith found ended after → IsSuccess ended.end → WentWell (ended ∷ []) found.bytes after
-one_went_well found ended after is success =
-    let whole = whole_if_well the_table found ended.loaded ended.acked ended.tried ended.end success is.updates in
+pub one_went_well : (plan : Option AppendTable) (found : Found) (ended : Ended) (after : List ℕ) → EndsWith plan found ended after → IsSuccess ended.end → WentWell (ended ∷ []) found.bytes after
+one_went_well plan found ended after is success =
+    let whole = whole_if_well plan found ended.loaded ended.acked ended.tried ended.end success is.updates in
     record {
       acked = ap (λ (payloads : List Payload). payloads ++ []) whole.1;
       loaded = λ not_loaded. absurd (let no : true ≡ false = sym whole.0 ∙ not_loaded in cc);
@@ -83,15 +84,16 @@ one_leaves timed ended old new leaves = record {
   none = λ e. absurd cc;
 }
 
-pub outcome_of_update : (timed : Type 0) (command : Command) (around : Around) (statements : List Statement) (end : UpdateEnd) (old new : DiskState) → command ≡ Update → HasStatements around.text statements → statements ≡ the_pipeline
-    → HasUpdated timed the_table (found_by around old.now.left) end old new → HasOutcome timed command around (Updated end) old new
-outcome_of_update timed Validate around statements end old new is has same updated = absurd cc
-outcome_of_update timed Update around statements end old new is has same updated =
+pub outcome_of_update : (timed : Type 0) (plan : Option AppendTable) (around : Around) (datasets : List Planned) (end : UpdateEnd) (old new : DiskState) → HasPlan around.text datasets → datasets ≡ plan_of plan
+    → HasUpdated timed plan (found_by around old.now.left) end old new → HasOutcome timed Update around (Updated (name_of plan) end) old new
+outcome_of_update timed plan around datasets end old new has is updated =
     let ended : Ended = record { loaded = updated.loaded; acked = updated.acked; tried = updated.tried; end = end } in
     record {
       updates = ended ∷ [];
       comes = (
-        subst (HasStatements around.text) same has,
+        plan,
+        subst (HasPlan around.text) is has,
+        refl,
         (ended, refl, refl, record { updates = updated.updates; small = updated.small; reads = updated.reads; goes_on = updated.goes_on }),
       );
       leaves = one_leaves timed ended old new updated.leaves;

@@ -1,31 +1,34 @@
 // A whole run.
-ghost use Rattle.std.specs.Prelude.{◌≡◌, ◌≤◌, ◌+◌, ℕ, List, Ok, map, length, string_bytes, IfOk, OnErr};
+ghost use Rattle.std.specs.Prelude.{◌≡◌, ◌≤◌, ◌+◌, ℕ, List, Option, Ok, map, length, string_bytes, IfOk, IfErr, OnErr};
 ghost use Rattle.disk_model.specs.declared.disk.Side.TheVariants.{Right};
 ghost use Rattle.disk_model.specs.Disk.{IsHonest};
 ghost use Rattle.disk_model.specs.Faults.{Rose};
 ghost use Rattle.landing_core.specs.Folders.{HoldsPresent};
 ghost use Rattle.commit_gate.specs.AtRest.{LeavesFile};
 ghost use Rattle.store_core.specs.Ours.{IsOurs};
-ghost use Rattle.table_update.specs.Stands.{IsStanding};
+ghost use Rattle.table_update.specs.declared.table.AppendTable.{AppendTable};
+ghost use Rattle.table_update.specs.Stands.{IsFor, IsStanding};
+ghost use Rattle.type_check.specs.Rules.{Checked, OnRefused, broken_at};
 ghost use Rattle.pipeline_run.specs.Command.{commands_of};
 ghost use Rattle.pipeline_run.specs.Crash.{HasOutcome, HasExecuted, HasRunAll, HasRun};
-ghost use Rattle.pipeline_run.specs.Pipeline.{text_limit, HasStatements, Knows};
+ghost use Rattle.pipeline_run.specs.Pipeline.{text_limit, HasPlan, HasStatements, Knows};
 ghost use Rattle.pipeline_run.specs.Report.{status_of};
 ghost use Rattle.pipeline_run.specs.Run.{Around, Counts, Standing, Tells, IsTelling, IsOfCommand, IsOfStatements, IsOfCommands, AnswersUsage};
-ghost use Rattle.pipeline_run.specs.Table.{the_table};
+ghost use Rattle.pipeline_run.specs.Table.{AskFor, AsksFor, IsUpdatable, plan_of};
 
 use crate::command::{Command, commands};
 use crate::outcome::{Outcome, Status};
 use crate::pipeline::{Unread, statements};
 use crate::report::{line, status};
-use crate::supported::is_supported;
-use crate::table::table_of;
+use crate::table::{name_of, table_of};
 use disk_model::{Disk, Sink, SinkFault, Source};
 use landing_core::Landing;
+use plan_core::Plan;
 use sql_tokens::SqlRefusal;
 use sql_tree::Statements;
 use std::alloc::{AllocError, Global};
 use table_update::{UpdateEnd, update};
+use type_check::{CheckRefusal, check, checked_tables_keep_text};
 
 /// Prints the line of an outcome, if it has one, and answers its status.
 fn tell<S: Sink>(alloc: Global, out: &mut S, outcome: &Outcome) -> Status
@@ -46,6 +49,47 @@ fn tell<S: Sink>(alloc: Global, out: &mut S, outcome: &Outcome) -> Status
         Err(SinkFault::Failed) => Status::Sink,
         Err(SinkFault::Memory) => Status::Memory,
     }
+}
+
+/// The plan of statements, which is that of a table or of none, or the first check that they break.
+fn checked(alloc: Global, statements: &Statements) -> Result<Plan, CheckRefusal>
+    ensures plan { IfOk result (λ plan. Checked statements.now (Ok plan)) }
+    ensures updatable { IfOk result (λ plan. IsUpdatable plan) }
+    ensures refused { IfErr result (λ end. OnRefused end (λ at fault. Checked statements.now (broken_at at fault))) }
+{
+    checked_tables_keep_text();
+    check(alloc, statements)
+}
+
+/// What an update of a plan comes to.
+fn updated<D: Disk, L: Landing>(
+    alloc: Global,
+    plan: &Plan,
+    disk: &mut D,
+    landing: &mut L,
+) -> Result<Outcome, AllocError>
+    requires honest { D.tells → IsHonest (D.state disk.old) }
+    requires updatable { IsUpdatable plan.now }
+    ensures comes { D.tells → L.tells → (text : List ℕ) → HasPlan text plan.now → IfOk result (λ outcome. HasOutcome D.tells_moments Command.Update (record { text = text; room = D.room disk.old; landing = L.present landing.old }) outcome (D.state disk.old) (D.state disk.new)) }
+    ensures err { OnErr result (disk.new ≡ disk.old) }
+    ensures ours { D.tells → IsOurs (D.state disk.old) → IsOurs (D.state disk.new) }
+    ensures stands { D.tells → L.tells → (asked : AppendTable) → ((table : Option AppendTable) → plan.now ≡ plan_of table → IsFor table asked) → HoldsPresent (L.present landing.old) (L.ever landing.old) → IsStanding asked (L.ever landing.old) (D.state disk.old) → IsStanding asked (L.ever landing.old) (D.state disk.new) }
+    ensures honest { D.tells → IsHonest (D.state disk.new) }
+    ensures kept { D.tells → LeavesFile Right (D.state disk.old) (D.state disk.new) }
+    ensures room { D.room disk.new ≡ D.room disk.old }
+    ensures disk_later { D.faults disk.old ≤ D.faults disk.new }
+    ensures landing_later { L.faults landing.old ≤ L.faults landing.new }
+    ensures present { L.tells → L.present landing.new ≡ L.present landing.old }
+    ensures ever { L.tells → L.ever landing.new ≡ L.ever landing.old }
+    ensures own { IfOk result IsOfStatements }
+    ensures load_fault { (table : Option (List ℕ)) → result ≡ Ok (Outcome.Updated table UpdateEnd.LoadFailed) → Rose (D.faults disk.old) (D.faults disk.new) }
+    ensures commit_fault { (table : Option (List ℕ)) → result ≡ Ok (Outcome.Updated table UpdateEnd.CommitFailed) → Rose (D.faults disk.old) (D.faults disk.new) }
+    ensures landing_fault { (table : Option (List ℕ)) → result ≡ Ok (Outcome.Updated table UpdateEnd.LandingFailed) → Rose (L.faults landing.old) (L.faults landing.new) }
+{
+    let table = table_of(alloc, plan)?;
+    let name = name_of(alloc, &table)?;
+    let end = update(alloc, disk, landing, table.as_ref());
+    Ok(Outcome::Updated { table: name, end })
 }
 
 /// What a command comes to with these statements of the text.
@@ -69,19 +113,20 @@ fn outcome_by<D: Disk, L: Landing>(
     ensures present { L.tells → L.present landing.new ≡ L.present landing.old }
     ensures ever { L.tells → L.ever landing.new ≡ L.ever landing.old }
     ensures own { IfOk result IsOfStatements }
-    ensures load_fault { result ≡ Ok (Outcome.Updated UpdateEnd.LoadFailed) → Rose (D.faults disk.old) (D.faults disk.new) }
-    ensures commit_fault { result ≡ Ok (Outcome.Updated UpdateEnd.CommitFailed) → Rose (D.faults disk.old) (D.faults disk.new) }
-    ensures landing_fault { result ≡ Ok (Outcome.Updated UpdateEnd.LandingFailed) → Rose (L.faults landing.old) (L.faults landing.new) }
+    ensures load_fault { (table : Option (List ℕ)) → result ≡ Ok (Outcome.Updated table UpdateEnd.LoadFailed) → Rose (D.faults disk.old) (D.faults disk.new) }
+    ensures commit_fault { (table : Option (List ℕ)) → result ≡ Ok (Outcome.Updated table UpdateEnd.CommitFailed) → Rose (D.faults disk.old) (D.faults disk.new) }
+    ensures landing_fault { (table : Option (List ℕ)) → result ≡ Ok (Outcome.Updated table UpdateEnd.LandingFailed) → Rose (L.faults landing.old) (L.faults landing.new) }
 {
-    match command {
-        Command::Validate => Ok(Outcome::Valid),
-        Command::Update => {
-            if !is_supported(statements.as_slice()) {
-                return Ok(Outcome::NotSupported);
-            }
-            let table = table_of(alloc, statements)?;
-            Ok(Outcome::Updated(update(alloc, disk, landing, &table)))
+    let plan = match checked(alloc, statements) {
+        Ok(plan) => plan,
+        Err(CheckRefusal::Refused { statement, fault }) => {
+            return Ok(Outcome::Broken { statement, fault });
         }
+        Err(CheckRefusal::Memory) => return Err(AllocError),
+    };
+    match command {
+        Command::Validate => Ok(Outcome::Valid(plan)),
+        Command::Update => updated(alloc, &plan, disk, landing),
     }
 }
 
@@ -112,9 +157,9 @@ fn outcome_of<T: Source, D: Disk, L: Landing>(
     ensures ever { L.tells → L.ever landing.new ≡ L.ever landing.old }
     ensures own { IfOk result IsOfCommand }
     ensures text_fault { result ≡ Ok Outcome.TextFailed → Rose (T.faults text.old) (T.faults text.new) }
-    ensures load_fault { result ≡ Ok (Outcome.Updated UpdateEnd.LoadFailed) → Rose (D.faults disk.old) (D.faults disk.new) }
-    ensures commit_fault { result ≡ Ok (Outcome.Updated UpdateEnd.CommitFailed) → Rose (D.faults disk.old) (D.faults disk.new) }
-    ensures landing_fault { result ≡ Ok (Outcome.Updated UpdateEnd.LandingFailed) → Rose (L.faults landing.old) (L.faults landing.new) }
+    ensures load_fault { (table : Option (List ℕ)) → result ≡ Ok (Outcome.Updated table UpdateEnd.LoadFailed) → Rose (D.faults disk.old) (D.faults disk.new) }
+    ensures commit_fault { (table : Option (List ℕ)) → result ≡ Ok (Outcome.Updated table UpdateEnd.CommitFailed) → Rose (D.faults disk.old) (D.faults disk.new) }
+    ensures landing_fault { (table : Option (List ℕ)) → result ≡ Ok (Outcome.Updated table UpdateEnd.LandingFailed) → Rose (L.faults landing.old) (L.faults landing.new) }
 {
     let statements = match statements(alloc, text, known.take()) {
         Ok(statements) => statements,

@@ -1,20 +1,16 @@
 // Runs over devices in memory: what is stored, printed and answered.
-ghost use Rattle.std.specs.Prelude.{◌≡◌, true, IfOk};
 ghost use Rattle.disk_model.specs.Disk.{IsHonest};
 ghost use Rattle.disk_model.specs.MemDisk.{mem_state};
-ghost use Rattle.line_rows.specs.Lines.{keeps_text};
 
-use crate::test_devices::{left, shown};
+use crate::test_devices::{left, ran_over, shown, words};
 use crate::{Status, run, run_in_memory};
 use disk_model::{MemDisk, MemSink, MemSource, SureDisk, SureSink, SureSource};
 use landing_core::{MemLanding, SureLanding};
 use std::alloc::{AllocError, Global};
 use std::test::Fail;
-use table_update::AppendTable;
-use value_core::{Column, Format, Kind, Name, Schema, Shape, Text};
 
-const PIPELINE: &[u8] =
-    b"CREATE OR REFRESH STREAMING TABLE t AS SELECT a FROM STREAM read_files('in', format => 'json', schema => 'a BIGINT')";
+const PIPELINE: &str =
+    "CREATE OR REFRESH STREAMING TABLE t AS SELECT a FROM STREAM read_files('in', format => 'json', schema => 'a BIGINT')";
 
 /// Two lines, of 8 and 11 bytes.
 const LINES: &[u8] = b"{\"a\":5}\n{\"a\":null}\n";
@@ -22,25 +18,13 @@ const LINES: &[u8] = b"{\"a\":5}\n{\"a\":null}\n";
 /// What the store shows once these lines are taken from `a.json`.
 const TAKEN: &str = "+-|;5|;read a.json 19";
 
-fn words(alloc: Global, list: &[&str]) -> Result<Vec<String>, AllocError> {
-    let mut words = Vec::new(alloc);
-    for word in list {
-        words.push(String::from_str(alloc, word)?)?;
-    }
-    Ok(words)
-}
-
 /// Runs one update, and gives its status and what it printed.
 fn update(
     alloc: Global,
     disk: &mut SureDisk,
     landing: &mut SureLanding,
 ) -> Result<(Status, SureSink), AllocError> {
-    let words = words(alloc, &["pipeline.sql", "store", "landing", "update"])?;
-    let mut text = SureSource::new(alloc, PIPELINE)?;
-    let mut out = SureSink::new(alloc);
-    let status = run_in_memory(alloc, words.as_slice(), &mut text, disk, landing, &mut out);
-    Ok((status, out))
+    ran_over(alloc, "update", PIPELINE, disk, landing)
 }
 
 #[test]
@@ -52,7 +36,7 @@ fn the_first_update_writes_two_rows(rt: HostRuntime) -> Result<(), Fail> {
     let (status, out) = update(alloc, &mut disk, &mut landing)?;
     assert!(rt; status == Status::Ok);
     assert!(rt; out.bytes() == b"flow t into t: completed, 2 rows read, version 1\n".as_slice());
-    assert!(rt; shown(alloc, &mut disk)?.as_str() == TAKEN);
+    assert!(rt; shown(alloc, &mut disk, "t")?.as_str() == TAKEN);
     Ok(())
 }
 
@@ -135,7 +119,7 @@ fn updates_go_on_from_the_places(rt: HostRuntime) -> Result<(), Fail> {
 /// Words and a text and a store's file, and what the run answers and prints.
 struct Refusal {
     words: &'static [&'static str],
-    text: &'static [u8],
+    text: &'static str,
     left: &'static [u8],
     room: u64,
     status: Status,
@@ -173,11 +157,11 @@ const REFUSALS: [Refusal; 6] = [
     },
     Refusal {
         words: UPDATE,
-        text: b"CREATE STREAMING TABLE t",
+        text: "CREATE STREAMING TABLE t",
         left: b"",
         room: 64,
         status: Status::Pipeline,
-        line: b"pipeline refused: not yet supported\n",
+        line: b"pipeline refused: statement 1: not yet supported\n",
     },
     Refusal {
         words: UPDATE,
@@ -206,7 +190,7 @@ fn what_is_refused_is_said(rt: HostRuntime) -> Result<(), Fail> {
         let mut landing = SureLanding::new(alloc);
         landing.put("in", "a.json", LINES)?;
         let words = words(alloc, refusal.words)?;
-        let mut text = SureSource::new(alloc, refusal.text)?;
+        let mut text = SureSource::new(alloc, refusal.text.as_bytes())?;
         let mut out = SureSink::new(alloc);
         let status = run_in_memory(
             alloc,
@@ -238,67 +222,51 @@ fn each_commit_wants_its_room(rt: HostRuntime) -> Result<(), Fail> {
     let (status, out) = update(alloc, &mut disk, &mut landing)?;
     assert!(rt; status == Status::Store);
     assert!(rt; out.bytes() == b"store refused: full: end 365, room 364\n".as_slice());
-    assert!(rt; shown(alloc, &mut disk)?.as_str() == "read");
+    assert!(rt; shown(alloc, &mut disk, "t")?.as_str() == "read");
     Ok(())
 }
 
-/// The shape of the one table.
-fn shape(alloc: Global) -> Result<Shape, AllocError>
-    ensures { IfOk result (λ shape. keeps_text shape ≡ true) }
-{
-    let mut columns = Schema::new(alloc);
-    columns.push(Column {
-        name: Name::new(alloc, "a")?,
-        kind: Kind::Big,
-    })?;
-    Ok(Shape {
-        format: Format::Json,
-        columns,
-        rescued: false,
-        header: false,
-        sep: b',',
-    })
-}
-
-/// A table of this name and text, of the same folder and shape.
-fn table(alloc: Global, name: &str, text: &str) -> Result<AppendTable, AllocError>
-    ensures { IfOk result (λ table. keeps_text table.shape ≡ true) }
-{
-    Ok(AppendTable {
-        name: Name::new(alloc, name)?,
-        text: Text::new(alloc, text)?,
-        folder: Text::new(alloc, "in")?,
-        shape: shape(alloc)?,
-    })
-}
-
-/// What an update prints over the store of another table.
-fn refused_over(alloc: Global, name: &str, text: &str) -> Result<(Status, SureSink), Fail> {
+/// What an update prints over the store of another pipeline.
+fn updated_over(alloc: Global, other: &str) -> Result<(Status, SureSink), Fail> {
     let mut disk = SureDisk::new(alloc, b"", b"", 1024)?;
     let mut landing = SureLanding::new(alloc);
-    let other = table(alloc, name, text)?;
-    let _end = table_update::update(alloc, &mut disk, &mut landing, &other);
+    let (status, _out) = ran_over(alloc, "update", other, &mut disk, &mut landing)?;
+    if status != Status::Ok {
+        return Err("the other pipeline is updated".into());
+    }
     Ok(update(alloc, &mut disk, &mut landing)?)
 }
 
-/// Its own text in canonical print, which the store keeps.
-const PRINTED: &str =
-    "CREATE OR REFRESH STREAMING TABLE t AS SELECT a FROM STREAM read_files ( 'in' , format => 'json' , schema => 'a BIGINT' )";
+/// The same pipeline in another spelling.
+const RESPELLED: &str =
+    "create streaming table `t` as select (`a`) from stream Read_Files(\"in\", format => \"json\", schema => 'a BIGINT');";
+
+/// A table of another name, and one of the same name but for case whose output has a name of its own.
+const OTHERS: [&str; 2] = [
+    "CREATE STREAMING TABLE `u|\\` AS SELECT a FROM STREAM read_files('in', format => 'json', schema => 'a BIGINT')",
+    "CREATE STREAMING TABLE T AS SELECT a AS `|\\` FROM STREAM read_files('in', format => 'json', schema => 'a BIGINT')",
+];
 
 #[test]
 fn a_store_of_another_table_is_refused(rt: HostRuntime) -> Result<(), Fail> {
     let alloc = rt.alloc();
-    let (status, out) = refused_over(alloc, "t", PRINTED)?;
+    let (status, out) = updated_over(alloc, RESPELLED)?;
     assert!(rt; status == Status::Ok);
     assert!(rt; out.bytes() == b"flow t into t: current\n".as_slice());
-    let (status, out) = refused_over(alloc, "u|\n", "x")?;
+    let (status, out) = updated_over(alloc, OTHERS[0])?;
     assert!(rt; status == Status::Store);
-    assert!(rt; out.bytes() == b"store refused: removed u\\|\\n\n".as_slice());
-    let (status, out) = refused_over(alloc, "T", "x\t\\")?;
+    assert!(rt; out.bytes() == b"store refused: removed u\\|\\\\\n".as_slice());
+    Ok(())
+}
+
+#[test]
+fn a_store_of_another_text_is_refused(rt: HostRuntime) -> Result<(), Fail> {
+    let alloc = rt.alloc();
+    let (status, out) = updated_over(alloc, OTHERS[1])?;
     assert!(rt; status == Status::Store);
     assert!(rt;
         out.bytes()
-            == b"store refused: changed T: stored x\\t\\\\, given CREATE OR REFRESH STREAMING TABLE t AS SELECT a FROM STREAM read_files ( 'in' , format => 'json' , schema => 'a BIGINT' )\n".as_slice()
+            == b"store refused: changed T: stored CREATE OR REFRESH STREAMING TABLE T AS SELECT a AS `\\|\\\\` FROM STREAM read_files ( 'in' , format => 'json' , schema => 'a BIGINT' ), given CREATE OR REFRESH STREAMING TABLE t AS SELECT a FROM STREAM read_files ( 'in' , format => 'json' , schema => 'a BIGINT' )\n".as_slice()
     );
     Ok(())
 }
@@ -354,7 +322,11 @@ fn update_failing(
     let mut disk = MemDisk::new(alloc, b"", b"", 1024, 4096, calls)?;
     let mut landing = MemLanding::new(alloc, failing(alloc, device == 1, call)?);
     landing.put("in", "a.json", LINES)?;
-    let mut text = MemSource::new(alloc, PIPELINE, failing(alloc, device == 2, call)?)?;
+    let mut text = MemSource::new(
+        alloc,
+        PIPELINE.as_bytes(),
+        failing(alloc, device == 2, call)?,
+    )?;
     let mut out = MemSink::new(alloc, failing(alloc, device == 3, call)?);
     let status = run(
         alloc,
@@ -374,7 +346,7 @@ fn updated_again(alloc: Global, disk: &mut MemDisk) -> Result<String, Fail>
     let words = words(alloc, UPDATE)?;
     let mut landing = SureLanding::new(alloc);
     landing.put("in", "a.json", LINES)?;
-    let mut text = SureSource::new(alloc, PIPELINE)?;
+    let mut text = SureSource::new(alloc, PIPELINE.as_bytes())?;
     let mut out = SureSink::new(alloc);
     let _status = run(
         alloc,
@@ -384,7 +356,7 @@ fn updated_again(alloc: Global, disk: &mut MemDisk) -> Result<String, Fail>
         &mut landing,
         &mut out,
     );
-    shown(alloc, disk)
+    shown(alloc, disk, "t")
 }
 
 #[test]

@@ -1,5 +1,5 @@
 use crate::command::{Command, commands};
-use crate::test_devices::left;
+use crate::test_devices::{left, words};
 use crate::{Status, run_in_memory};
 use disk_model::{SureDisk, SureSink, SureSource};
 use landing_core::SureLanding;
@@ -43,14 +43,6 @@ const ASKED: [(&[&str], Option<&[Command]>); 22] = [
     (&["p", "s", "l", ""], None),
     (&["p", "s", "l", "update", "then", "show"], None),
 ];
-
-fn words(alloc: Global, list: &[&str]) -> Result<Vec<String>, AllocError> {
-    let mut words = Vec::new(alloc);
-    for word in list {
-        words.push(String::from_str(alloc, word)?)?;
-    }
-    Ok(words)
-}
 
 fn are_same(found: &Option<Vec<Command>>, expected: Option<&[Command]>) -> bool {
     match (found, expected) {
@@ -140,59 +132,29 @@ const STORING: [Case; 4] = [
         commands: BOTH,
         text: PRINTED,
         status: Status::Ok,
-        lines: b"flow t into t: completed, 2 rows read, version 1\n",
+        lines: b"streaming table t level 0: a BIGINT\nflow t into t: completed, 2 rows read, version 1\n",
     },
 ];
 
 /// Runs that store nothing.
-const IDLE: [Case; 13] = [
+const IDLE: [Case; 8] = [
     Case {
         commands: ONE_VALIDATE,
         text: PRINTED,
         status: Status::Ok,
-        lines: b"",
-    },
-    Case {
-        commands: ONE_VALIDATE,
-        text: b"CREATE STREAMING TABLE u",
-        status: Status::Ok,
-        lines: b"",
+        lines: b"streaming table t level 0: a BIGINT\n",
     },
     Case {
         commands: ONE_VALIDATE,
         text: b"",
         status: Status::Ok,
         lines: b"",
-    },
-    Case {
-        commands: ONE_UPDATE,
-        text: b"",
-        status: Status::Pipeline,
-        lines: b"pipeline refused: not yet supported\n",
     },
     Case {
         commands: BOTH,
         text: b"CREATE STREAMING TABLE u",
         status: Status::Pipeline,
-        lines: b"pipeline refused: not yet supported\n",
-    },
-    Case {
-        commands: TWO_UPDATES,
-        text: b"CREATE OR REFRESH STREAMING TABLE t AS SELECT a FROM STREAM read_files('in', format => 'json', schema => 'a INT')",
-        status: Status::Pipeline,
-        lines: b"pipeline refused: not yet supported\n",
-    },
-    Case {
-        commands: ONE_UPDATE,
-        text: b"CREATE OR REFRESH STREAMING TABLE t AS SELECT a FROM STREAM read_files('in', schema => 'a BIGINT', format => 'json')",
-        status: Status::Pipeline,
-        lines: b"pipeline refused: not yet supported\n",
-    },
-    Case {
-        commands: ONE_UPDATE,
-        text: b"CREATE OR REFRESH STREAMING TABLE T AS SELECT a FROM STREAM read_files('in', format => 'json', schema => 'a BIGINT')",
-        status: Status::Pipeline,
-        lines: b"pipeline refused: not yet supported\n",
+        lines: b"pipeline refused: statement 1: not yet supported\n",
     },
     Case {
         commands: BOTH,

@@ -3,5 +3,5 @@ use Rattle.pipeline_run.proofs.laws.an_update_succeeds_where_nothing_is_refused.
 
 pub returns : goal.returns
 returns c =
-    let law : HasOneAnswer = record { one = c.a_text_has_one_answer.ensures.read; apart = c.a_text_has_one_answer.ensures.apart; refused = c.a_text_has_one_answer.ensures.refused } in
+    let law : HasOneAnswer = record { one = c.a_text_has_one_answer.ensures.read; apart = c.a_text_has_one_answer.ensures.apart; refused = c.a_text_has_one_answer.ensures.refused; checks = c.statements_have_one_answer.ensures } in
     ok_where_nothing_is_refused law c.an_update_succeeds_where_nothing_is_refused.ensures

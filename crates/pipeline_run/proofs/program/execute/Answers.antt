@@ -23,7 +23,7 @@ returns-in-Ok-clause-executes g c text disk landing sink whole knows =
         outcome,
         record {
           comes = has.comes;
-          blames = blames before now outcome (λ e. facts.text_fault (ap Ok e)) (λ e. facts.load_fault (ap Ok e)) (λ e. facts.commit_fault (ap Ok e)) (λ e. facts.landing_fault (ap Ok e));
+          blames = blames before now outcome (λ e. facts.text_fault (ap Ok e)) (λ table e. facts.load_fault table (ap Ok e)) (λ table e. facts.commit_fault table (ap Ok e)) (λ table e. facts.landing_fault table (ap Ok e));
           tells = c.tell.ensures.tells sink old.file new.file before now refl refl;
           later = record { text = facts.text_later; disk = facts.disk_later; landing = facts.landing_later; sink = c.tell.ensures.later };
         },
@@ -38,7 +38,7 @@ returns-in-Ok-clause-knows g c text whole knows ok =
 pub returns-in-Ok-clause-disk_fault : goal.returns-in-Ok-clause-disk_fault
 returns-in-Ok-clause-disk_fault g c is =
     told_disk c.in-Ok.outcome c.tell.result (Rose (g.D.Disk.faults c.args.disk.now) (g.D.Disk.faults c.outcome_of.new.disk)) c.tell.ensures.status is
-    (λ e. c.in-Ok.ensures.load_fault (ap Ok e)) (λ e. c.in-Ok.ensures.commit_fault (ap Ok e))
+    (λ table e. c.in-Ok.ensures.load_fault table (ap Ok e)) (λ table e. c.in-Ok.ensures.commit_fault table (ap Ok e))
 
 pub returns-in-Err-clause-executes : goal.returns-in-Err-clause-executes
 returns-in-Err-clause-executes g c text disk landing sink whole knows =

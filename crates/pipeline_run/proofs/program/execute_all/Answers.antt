@@ -29,9 +29,10 @@ returns-then-ne-clause-amount g c text =
     c.execute-answer.ensures.amount text (g.T.Source.left c.args.text.now) (c.loop-command.invariant.knows text) (c.loop-command.invariant.amount text)
 
 pub returns-then-ne-clause-stands : goal.returns-then-ne-clause-stands
-returns-then-ne-clause-stands g c disk landing holds stands =
+returns-then-ne-clause-stands g c text disk landing asked asks holds stands =
     let before = c.loop-command.invariant in
-    (rw (before.present landing, before.ever landing) at (c.execute-answer.ensures.stands disk landing)) holds (before.stands disk landing holds stands)
+    let stood = before.stands text disk landing asked asks holds stands in
+    (rw (before.present landing, before.ever landing) at (c.execute-answer.ensures.stands text disk landing (g.T.Source.left c.args.text.now) (before.knows text) asked asks)) holds stood
 
 pub returns-then-ne-clause-kept : goal.returns-then-ne-clause-kept
 returns-then-ne-clause-kept g c disk =
@@ -52,7 +53,7 @@ loop-command-init g c =
       room = refl;
       honest = c.requires.honest;
       ours = λ disk ours. ours;
-      stands = λ disk landing holds stands. stands;
+      stands = λ text disk landing asked asks holds stands. stands;
       kept = λ disk. leaves_itself (d.state c.args.disk.now);
       present = λ landing. refl;
       ever = λ landing. refl;
@@ -86,7 +87,8 @@ loop-command-preserved g c =
       room = search rules;
       honest = facts.honest;
       ours = λ disk ours. facts.ours disk (before.ours disk ours);
-      stands = λ disk landing holds stands. (rw (before.present landing, before.ever landing) at (facts.stands disk landing)) holds (before.stands disk landing holds stands);
+      stands = λ text disk landing asked asks holds stands.
+          (rw (before.present landing, before.ever landing) at (facts.stands text disk landing whole (before.knows text) asked asks)) holds (before.stands text disk landing asked asks holds stands);
       kept = λ disk. leaves_both (d.state c.args.disk.now) (d.state c.loop-command.disk) (d.state c.execute-answer.new.disk) (before.kept disk) (facts.kept disk);
       present = search rules;
       ever = search rules;

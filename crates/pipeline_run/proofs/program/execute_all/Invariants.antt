@@ -4,10 +4,11 @@ use Rattle.disk_model.specs.Disk.{IsHonest}
 use Rattle.landing_core.specs.Folders.{HoldsPresent}
 use Rattle.commit_gate.specs.AtRest.{LeavesFile}
 use Rattle.store_core.specs.Ours.{IsOurs}
+use Rattle.table_update.specs.declared.table.AppendTable.{AppendTable}
 use Rattle.table_update.specs.Stands.{IsStanding}
 use Rattle.pipeline_run.specs.Pipeline.{text_limit, Knows}
 use Rattle.pipeline_run.specs.Run.{Around, Standing}
-use Rattle.pipeline_run.specs.Table.{the_table}
+use Rattle.pipeline_run.specs.Table.{AsksFor}
 use Rattle.pipeline_run.proofs.RunLemmas.{GoesSo}
 use Rattle.pipeline_run.proofs.program.execute_all.Given as goal
 
@@ -27,8 +28,8 @@ invariant-loop-command g l =
       room : d.room l.disk ≡ d.room l.initial.disk;
       honest : d.tells → IsHonest (d.state l.disk);
       ours : d.tells → IsOurs (d.state l.initial.disk) → IsOurs (d.state l.disk);
-      stands : d.tells → f.tells → HoldsPresent (f.present l.initial.landing) (f.ever l.initial.landing) → IsStanding the_table (f.ever l.initial.landing) (d.state l.initial.disk)
-          → IsStanding the_table (f.ever l.initial.landing) (d.state l.disk);
+      stands : t.tells → d.tells → f.tells → (asked : AppendTable) → AsksFor (t.left l.initial.text) asked → HoldsPresent (f.present l.initial.landing) (f.ever l.initial.landing)
+          → IsStanding asked (f.ever l.initial.landing) (d.state l.initial.disk) → IsStanding asked (f.ever l.initial.landing) (d.state l.disk);
       kept : d.tells → LeavesFile Right (d.state l.initial.disk) (d.state l.disk);
       present : f.tells → f.present l.landing ≡ f.present l.initial.landing;
       ever : f.tells → f.ever l.landing ≡ f.ever l.initial.landing;

@@ -10,6 +10,12 @@ returns-clause-knows g c tells whole knows =
     kept_if_ok c.outcome_by-outcome.result (HasStatements whole c.in-Ok.statements)
     (c.in-Ok.ensures.statements tells whole (subst (λ (known : Option (List Statement)). Knows whole known left) (sym c.take.ensures.value) knows))
 
+pub returns-clause-stands : goal.returns-clause-stands
+returns-clause-stands g c text disk landing whole knows asked asks =
+    let left = g.T.Source.left c.args.text.now in
+    let has = c.in-Ok.ensures.statements text whole (subst (λ (known : Option (List Statement)). Knows whole known left) (sym c.take.ensures.value) knows) in
+    c.outcome_by-outcome.ensures.stands disk landing asked (λ other checked. asks other (record { statements = c.in-Ok.statements; has = has; checked = checked }))
+
 -- The clauses one by one: with the whole grammar in sight the search gives up on all of them at once.
 pub returns-in-Err-Refused : goal.returns-in-Err-Refused
 returns-in-Err-Refused g c = record {
