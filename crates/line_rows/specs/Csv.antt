@@ -31,6 +31,10 @@ has_mark line = slice_index line 0 == 239 && slice_index line 1 == 187 && slice_
 abbrev pub is_malformed : List ℕ → Bool
 is_malformed line = not (is_utf8 line) || list_any (λ b. b == 13) line || has_mark line
 
+-- a line that has bytes, and no quote and no LF among them
+abbrev pub is_plain : List ℕ → Bool
+is_plain line = not (length line == 0) && not (list_any (λ b. b == 34) line) && not (list_any (λ b. b == 10) line)
+
 -- the fields of the record that stands first in a line, and no field where none does
 abbrev pub fields_read : ℕ → List ℕ → List (List ℕ)
 fields_read sep line = option_map_or (λ read. read.0) (next_record (settings sep) StartRecord [] [] line) []

@@ -1,4 +1,5 @@
-ghost use Rattle.std.specs.Prelude.{◌≡◌, IfOk, false, option_map, position, bytes_eq};
+ghost use Rattle.std.specs.Prelude.{◌≡◌, ◌==◌, IfOk, true, false, map, option_map, position, bytes_eq};
+ghost use Rattle.std.specs.List.{slice_split};
 ghost use Rattle.std.specs.Option.{option_copied};
 ghost use Rattle.csv.specs.Records.{fields_of};
 ghost use Rattle.line_rows.specs.Csv as spec;
@@ -61,12 +62,41 @@ fn read_fields(alloc: Global, sep: u8, line: &[u8]) -> Result<ByteRecord, AllocE
     }
 }
 
+/// Whether a line has bytes, and no quote and no LF among them.
+fn is_plain(line: &[u8]) -> bool
+    ensures { result ≡ spec.is_plain line.now }
+{
+    !line.is_empty() && !line.contains(&b'"') && !line.contains(&b'\n')
+}
+
+/// The pieces of a line between its separators.
+fn pieces_of(alloc: Global, sep: u8, line: &[u8]) -> Result<Vec<&[u8]>, AllocError>
+    ensures { IfOk result (λ pieces. map (λ piece. piece.now) pieces.items ≡ slice_split (λ byte. byte == sep) line.now) }
+{
+    line.split(|byte| *byte == sep).collect(alloc)
+}
+
+/// The fields of a line where no quote stands: its pieces are what a reader finds, and a reader's tables, which take
+/// longer to fill than a line takes to read, aren't made.
+fn plain_fields(alloc: Global, sep: u8, line: &[u8]) -> Result<ByteRecord, AllocError>
+    requires sound { spec.is_malformed line.now ≡ false }
+    requires plain { spec.is_plain line.now ≡ true }
+    ensures { IfOk result (λ found. fields_of found ≡ spec.fields_read sep line.now) }
+{
+    let pieces = pieces_of(alloc, sep, line)?;
+    let fields = ByteRecord::from_fields(alloc, pieces.as_slice())?;
+    Ok(fields)
+}
+
 /// The fields of a line that isn't malformed.
 fn fields_in(alloc: Global, sep: u8, line: &[u8]) -> Result<Option<ByteRecord>, AllocError>
     ensures { IfOk result (λ found. option_map fields_of found ≡ spec.fields_in sep line.now) }
 {
     if is_malformed(line) {
         return Ok(None);
+    }
+    if is_plain(line) {
+        return Ok(Some(plain_fields(alloc, sep, line)?));
     }
     Ok(Some(read_fields(alloc, sep, line)?))
 }
