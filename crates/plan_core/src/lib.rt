@@ -3,6 +3,7 @@
 
 mod expectation;
 mod flow;
+mod folded;
 mod plan;
 mod query;
 mod stop;

@@ -34,18 +34,23 @@ fn table(alloc: Global, name: &str, level: u32) -> Result<Dataset, AllocError> {
     })
 }
 
-/// The tables `Orders` at level 1, and `orders_2` and `ORDERS` at levels 2 and 3.
-fn three_tables(alloc: Global) -> Result<Plan, AllocError> {
-    let mut datasets = Vec::new(alloc);
-    datasets.push(table(alloc, "Orders", 1)?)?;
-    datasets.push(table(alloc, "orders_2", 2)?)?;
-    datasets.push(table(alloc, "ORDERS", 3)?)?;
-    Ok(Plan::from_vec(datasets))
+/// Adds a table of that name and level, and whether the plan took it.
+fn add_table(plan: &mut Plan, alloc: Global, name: &str, level: u32) -> Result<bool, AllocError> {
+    let dataset = table(alloc, name, level)?;
+    plan.add(alloc, dataset)
 }
 
-/// The level of what is found of that name among the three tables.
+/// The tables `Orders` at level 1 and `orders_2` at level 2.
+fn two_tables(alloc: Global) -> Result<Plan, AllocError> {
+    let mut plan = Plan::new(alloc);
+    add_table(&mut plan, alloc, "Orders", 1)?;
+    add_table(&mut plan, alloc, "orders_2", 2)?;
+    Ok(plan)
+}
+
+/// The level of what is found of that name among the two tables.
 fn found_level(alloc: Global, name: &str) -> Result<Option<u32>, AllocError> {
-    let plan = three_tables(alloc)?;
+    let plan = two_tables(alloc)?;
     let name = Name::new(alloc, name)?;
     Ok(plan.find(&name).map(|dataset| dataset.level))
 }
@@ -61,9 +66,12 @@ fn a_dataset_is_found_by_its_folded_name(rt: HostRuntime) -> Result<(), Fail> {
 }
 
 #[test]
-fn a_plan_keeps_its_datasets(rt: HostRuntime) -> Result<(), Fail> {
-    let plan = three_tables(rt.alloc())?;
+fn a_plan_keeps_the_first_of_a_name(rt: HostRuntime) -> Result<(), Fail> {
+    let alloc = rt.alloc();
+    let mut plan = two_tables(alloc)?;
+    assert!(rt; !add_table(&mut plan, alloc, "ORDERS", 3)?);
+    assert!(rt; add_table(&mut plan, alloc, "customers", 4)?);
     assert!(rt; plan.as_slice().len() == 3);
-    assert!(rt; plan.into_vec().len() == 3);
+    assert!(rt; plan.as_slice().first().map(|first| first.level) == Some(1));
     Ok(())
 }

@@ -14,9 +14,9 @@ use std::alloc::{AllocError, Global};
 fn plan_of(alloc: Global, dataset: Dataset) -> Result<Plan, AllocError>
     ensures { IfOk result (λ plan. plan ≡ dataset ∷ []) }
 {
-    let mut datasets = Vec::new(alloc);
-    datasets.push(dataset)?;
-    Ok(Plan::from_vec(datasets))
+    let mut plan = Plan::new(alloc);
+    plan.add(alloc, dataset)?;
+    Ok(plan)
 }
 
 /// The plan of one statement.
@@ -53,7 +53,7 @@ pub fn check(alloc: Global, statements: &Statements) -> Result<Plan, CheckRefusa
     ensures sound { IfOk result (λ plan. IsSoundPlan plan) }
 {
     match statements.as_slice() {
-        [] => Ok(Plan::from_vec(Vec::new(alloc))),
+        [] => Ok(Plan::new(alloc)),
         [statement] => match plan_by(alloc, statements, statement) {
             Ok(plan) => Ok(plan),
             Err(end) => Err(end),
