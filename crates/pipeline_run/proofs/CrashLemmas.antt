@@ -1,5 +1,5 @@
 -- What a crash leaves of updates, one after another.
-use Rattle.std.proofs.Common.{◌≡◌, ◌⊎◌, inl, inr, ℕ, ◌+◌, ◌<◌, List, [], ◌∷◌, ◌++◌, Bool, true, false, refl, sym, ap, subst, ◌∙◌, append-nil, append_assoc, arith}
+use Rattle.std.proofs.Common.{◌≡◌, ◌⊎◌, inl, inr, ℕ, ◌+◌, ◌<◌, List, [], ◌∷◌, ◌++◌, false, refl, sym, ap, subst, ◌∙◌, append-nil, append_assoc, arith}
 use Rattle.disk_model.specs.declared.disk.Side.TheVariants.{Left}
 use Rattle.disk_model.specs.Disk.{TwoFiles, DiskState, Alone, Follows}
 use Rattle.disk_model.specs.Moments.{LeavesOnly}
@@ -7,7 +7,7 @@ use Rattle.disk_model.proofs.RunLemmas.{started, joins}
 use Rattle.commit_records.specs.declared.payload.Payload.{Payload}
 use Rattle.store_state.specs.State.{State, state_from, after_payload}
 use Rattle.store_core.specs.State.{HasState, KeepsState}
-use Rattle.table_update.specs.Crash.{HasThem, HasFrontOf, IsImage, IsSettled}
+use Rattle.table_update.specs.Crash.{HasThem, IsImage, IsSettled}
 use Rattle.pipeline_run.specs.Crash.{KeepsDisk, LeavesAll}
 use Rattle.pipeline_run.specs.Update.{Ended, acked_by, tried_by, loaded_by, LoadFails}
 

@@ -1,5 +1,5 @@
 -- A run has one end.
-use Rattle.std.proofs.Common.{◌≡◌, ◌≢◌, ◌⊎◌, inl, inr, ℕ, ◌<◌, ◌≤◌, ◌^◌, List, [], ◌∷◌, ◌++◌, length, take, refl, sym, ap, subst, ◌∙◌, Option, Some, None, Result, Ok, Bool, append-nil, arith}
+use Rattle.std.proofs.Common.{◌≡◌, ◌≢◌, inl, inr, ℕ, ◌≤◌, ◌^◌, List, [], ◌∷◌, ◌++◌, length, take, refl, sym, ap, subst, ◌∙◌, Option, Some, None, Result, Ok, Bool, arith}
 use Rattle.disk_model.specs.Faults.{Rose}
 use Rattle.commit_records.specs.declared.payload.Payload.{Payload}
 use Rattle.sql_tokens.specs.declared.error.SqlRefusal.{SqlRefusal}

@@ -22,7 +22,7 @@ use Rattle.pipeline_run.specs.declared.outcome.Status.{Status}
 use Rattle.pipeline_run.specs.declared.outcome.Status.TheVariants as status
 use Rattle.pipeline_run.specs.Pipeline.{text_limit, HasPlan, HasStatements, IsBroken, Knows}
 use Rattle.pipeline_run.specs.Crash.{HasOutcome, HasExecuted, HasRunAll, HasRun}
-use Rattle.pipeline_run.specs.Run.{Around, found_by, IsIdle, IsUpdate, Counts, NoneFalls, Standing, Comes, Blames, BlamesOf, Tells, Does, RunsOut, Executes, Runs, Refuses, Ran, IsTelling, IsOfCommands, AnswersUsage}
+use Rattle.pipeline_run.specs.Run.{Around, found_by, IsIdle, IsUpdate, Counts, NoneFalls, Standing, Comes, Blames, BlamesOf, Tells, RunsOut, Executes, Runs, Refuses, IsTelling, IsOfCommands, AnswersUsage}
 use Rattle.pipeline_run.specs.Report.{status_of, status_of_end}
 use Rattle.pipeline_run.specs.Update.{Ended, acked_by, loaded_by}
 use Rattle.pipeline_run.proofs.CrashLemmas.{WentWell, SoFar, at_start, all_left, no_updates, leaves_on, well_on}

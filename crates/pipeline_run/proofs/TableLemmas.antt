@@ -5,7 +5,6 @@ use Rattle.std.proofs.lemmas.List.{drop_all}
 use Rattle.std.proofs.lemmas.List.Elements.{All-head}
 use Rattle.std.proofs.lemmas.Option.{slice_get-map}
 use Rattle.value_core.specs.declared.schema.Column.{Column}
-use Rattle.value_core.specs.declared.shape.Shape.{Shape}
 use Rattle.value_core.specs.declared.value.Kind.{Kind}
 use Rattle.value_core.specs.declared.value.Kind.TheVariants as kind
 use Rattle.line_rows.specs.Lines.{ends_in_text, keeps_text}
@@ -25,7 +24,7 @@ use Rattle.type_check.specs.declared.fault.CheckFault.{CheckFault}
 use Rattle.type_check.specs.declared.outputs.Output as checked
 use Rattle.type_check.specs.Form.{Form, form_of}
 use Rattle.type_check.specs.Outputs as outputs
-use Rattle.type_check.specs.Rules.{Break, Comes, Checked, Judged, JudgedBehind, first_break, declared_checks, select_checks, column_checks, unless, over_outputs, table_by, dataset_over, text_of, as_plan}
+use Rattle.type_check.specs.Rules.{Comes, Checked, Judged, JudgedBehind, first_break, declared_checks, select_checks, column_checks, unless, over_outputs, table_by, dataset_over, text_of, as_plan}
 use Rattle.type_check.specs.Texts.{OriginKeepsText, KeepsText}
 use Rattle.table_update.specs.declared.table.AppendTable.{AppendTable}
 use Rattle.table_update.specs.declared.table.Output.{Output}

@@ -1,5 +1,5 @@
 -- What follows from how an update ended.
-use Rattle.std.proofs.Common.{◌≡◌, ◌⊎◌, inl, inr, ℕ, List, [], ◌∷◌, ◌++◌, Bool, true, false, Option, Some, None, refl, sym, ap, subst, ◌∙◌, append-nil}
+use Rattle.std.proofs.Common.{◌≡◌, inl, inr, ℕ, List, [], ◌∷◌, ◌++◌, Bool, true, false, Option, Some, None, refl, sym, ap, subst, ◌∙◌, append-nil}
 use Rattle.value_core.specs.declared.cursor.FilePlace.{FilePlace}
 use Rattle.landing_core.specs.declared.landing.LandingFile.{LandingFile}
 use Rattle.commit_records.specs.declared.payload.Payload.{Payload}
@@ -11,16 +11,14 @@ use Rattle.table_update.specs.declared.end.UpdateEnd.TheVariants as ends
 use Rattle.table_update.specs.declared.table.AppendTable.{AppendTable}
 use Rattle.table_update.specs.Crash.{HasThem, Leaves, Updated as HasUpdated}
 use Rattle.table_update.specs.Flow.{FlowEnds}
-use Rattle.table_update.specs.Update.{Found, Flows, Runs, LoadedEnds, Updates, IsSuccess}
-use Rattle.pipeline_run.specs.declared.command.Command.{Command}
+use Rattle.table_update.specs.Update.{Found, LoadedEnds, Updates, IsSuccess}
 use Rattle.pipeline_run.specs.declared.command.Command.TheVariants.{Update}
-use Rattle.pipeline_run.specs.declared.outcome.Outcome.{Outcome}
 use Rattle.pipeline_run.specs.declared.outcome.Outcome.TheVariants.{Updated}
 use Rattle.pipeline_run.specs.Crash.{LeavesAll, HasOutcome}
 use Rattle.pipeline_run.specs.Pipeline.{HasPlan}
 use Rattle.pipeline_run.specs.Run.{Around, found_by}
 use Rattle.pipeline_run.specs.Table.{name_of, plan_of}
-use Rattle.pipeline_run.specs.Update.{Ended, EndsWith, acked_by, tried_by, loaded_by, LoadFails}
+use Rattle.pipeline_run.specs.Update.{Ended, EndsWith, acked_by}
 use Rattle.pipeline_run.proofs.CrashLemmas.{WentWell}
 
 -- an update that didn't load the store acknowledged nothing

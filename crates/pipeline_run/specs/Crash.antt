@@ -1,5 +1,5 @@
 -- What a crash leaves of the store's file, during a run and after it.
-use Rattle.std.specs.Prelude.{◌≡◌, ℕ, List, [], Option}
+use Rattle.std.specs.Prelude.{◌≡◌, List, [], Option}
 use Rattle.disk_model.specs.Disk.{DiskState, IsUnchanged}
 use Rattle.disk_model.specs.Moments.{LeavesOnly}
 use Rattle.table_update.specs.Crash.{Leaves}
