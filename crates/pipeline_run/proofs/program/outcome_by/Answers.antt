@@ -7,3 +7,7 @@ returns-in-Validate-clause-comes g c disk landing text has =
     let around : Around = record { text = text; room = g.D.Disk.room c.args.disk.now; landing = g.L.Landing.present c.args.landing.now } in
     outcome_of_validate g.D.Disk.tells_moments c.args.command around c.in-Ok.plan (g.D.Disk.state c.args.disk.now) c.in-Validate.is
     (record { statements = c.args.statements.now; has = has; checked = c.in-Ok.ensures.plan })
+
+pub returns-in-Update-clause-comes : goal.returns-in-Update-clause-comes
+returns-in-Update-clause-comes g c disk landing text has =
+    rw c.in-Update.is (c.updated.ensures.comes disk landing text (record { statements = c.args.statements.now; has = has; checked = c.in-Ok.ensures.plan }))
