@@ -1,6 +1,6 @@
 // Which calls of a device in memory are to fail.
-ghost use Rattle.std.specs.Prelude.{◌≡◌, ◌↔◌, ◌⊎◌, false, IsErr};
-ghost use Rattle.disk_model.specs.Faults.{HasCause};
+ghost use Rattle.std.specs.Prelude.{◌≡◌, ◌↔◌, ◌⊎◌, false, IsErr, OnErr};
+ghost use Rattle.disk_model.specs.Faults.{HasCause, one_more_fault};
 
 use crate::Failed;
 
@@ -31,6 +31,7 @@ impl Failing {
     /// One call: it fails where its number is listed.
     pub fn turn(&mut self) -> Result<(), Failed>
         ensures cause { HasCause self.old.faults self.new.faults result }
+        ensures counted { OnErr result (self.new.faults ≡ one_more_fault self.old.faults) }
         ensures fails { IsErr result ↔ IsListed (failing_calls self.old) (calls_made self.old) }
         ensures made { calls_made self.new ≡ next_number (calls_made self.old) }
         ensures calls { failing_calls self.new ≡ failing_calls self.old }
@@ -41,6 +42,7 @@ impl Failing {
     /// One call: it fails where its number is listed, and also where it can't go on.
     pub fn turn_if(&mut self, can_go: bool) -> Result<(), Failed>
         ensures cause { HasCause self.old.faults self.new.faults result }
+        ensures counted { OnErr result (self.new.faults ≡ one_more_fault self.old.faults) }
         ensures fails { IsErr result ↔ (IsListed (failing_calls self.old) (calls_made self.old) ⊎ (can_go ≡ false)) }
         ensures made { calls_made self.new ≡ next_number (calls_made self.old) }
         ensures calls { failing_calls self.new ≡ failing_calls self.old }

@@ -1,7 +1,7 @@
 // Landing folders in memory, some of whose calls fail.
 ghost use Rattle.std.specs.Prelude.{◌≡◌, ◌↔◌, ◌+◌, ◌≤◌, ◌++◌, [], length, slice_range, IfOk, IsErr, IsErrOf, OnOk, OnErr};
 ghost use Rattle.disk_model.specs.Failing.{next_number, IsListed};
-ghost use Rattle.disk_model.specs.Faults.{HasCause, HasCauseOf};
+ghost use Rattle.disk_model.specs.Faults.{HasCause, HasCauseOf, one_more_fault};
 ghost use Rattle.landing_core.specs.Folders.{AreThere, bytes_of, listed_names, listing_of, with_file, without_file, SameFiles, HoldsPresent};
 ghost use Rattle.landing_core.specs.MemLanding.{landing_failing, landing_made};
 ghost use Rattle.landing_core.specs.Names.{AreAscending};
@@ -92,6 +92,7 @@ impl Landing for MemLanding {
     // It fails exactly where its number is listed.
     fn list(&mut self, alloc: Global, dir: &str) -> Result<Listing, ListEnd>
         ensures fails { IsErrOf result ListEnd.Failed ↔ IsListed (landing_failing self.old) (landing_made self.old) }
+        ensures counted { IsErrOf result ListEnd.Failed → self.new.failing.faults ≡ one_more_fault self.old.failing.faults }
         ensures listing { IfOk result (λ listing. listing ≡ listing_of dir.now (⟦<SureLanding as Landing>⟧.present self.old.inner)) }
         ensures there { IfOk result (λ listing. AreThere dir.now (⟦<SureLanding as Landing>⟧.present self.old.inner) listing) }
         ensures ascending { IfOk result (λ listing. AreAscending (listed_names listing)) }
@@ -111,6 +112,7 @@ impl Landing for MemLanding {
     fn read_at(&mut self, dir: &str, file: &str, at: u64, into: &mut [u8]) -> Result<(), Failed>
         requires { at + length into.old ≤ length (bytes_of dir.now file.now (⟦<SureLanding as Landing>⟧.present self.old.inner)) }
         ensures fails { IsErr result ↔ IsListed (landing_failing self.old) (landing_made self.old) }
+        ensures counted { OnErr result (self.new.failing.faults ≡ one_more_fault self.old.failing.faults) }
         ensures bytes { OnOk result (into.new ≡ slice_range (bytes_of dir.now file.now (⟦<SureLanding as Landing>⟧.present self.old.inner)) at (at + length into.old)) }
         ensures made { landing_made self.new ≡ next_number (landing_made self.old) }
         ensures failing { landing_failing self.new ≡ landing_failing self.old }
