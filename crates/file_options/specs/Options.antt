@@ -66,9 +66,9 @@ separator_of options = separator_by (set_to (codes "sep") options)
 abbrev pub truth_named : List ℕ → Option Bool
 truth_named text = if bytes_eq text (codes "true") then Some true else (if bytes_eq text (codes "false") then Some false else None)
 
--- no header where nothing is said
+-- a header where nothing is said
 abbrev pub header_by : Option OptionValue → Option Bool
-header_by None = Some false
+header_by None = Some true
 header_by (Some (value.Bool truth)) = Some truth
 header_by (Some (value.Str text)) = truth_named text
 

@@ -132,12 +132,12 @@ fn header_in(value: &OptionValue) -> Option<bool>
     }
 }
 
-/// Whether there is a header: not where nothing is said.
+/// Whether there is a header, as where nothing is said. A file of JSON lines has none in any case.
 pub fn header_of(options: &[SqlOption]) -> Option<bool>
     ensures { result ≡ spec.header_of options.now }
 {
     let Some(value) = value_of(options, "header") else {
-        return Some(false);
+        return Some(true);
     };
     header_in(value)
 }

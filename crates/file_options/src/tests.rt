@@ -278,7 +278,7 @@ fn options_give_a_shape(rt: HostRuntime) -> Result<(), Fail> {
             ("schema", "a LONG, `B c` boolean"),
             ("sep", "\t"),
             ("rescuedDataColumn", "_rescued"),
-            ("header", "true"),
+            ("header", "false"),
             ("format", "csv"),
         ],
     )?;
@@ -286,7 +286,7 @@ fn options_give_a_shape(rt: HostRuntime) -> Result<(), Fail> {
         Ok(files) => {
             assert!(rt; files.dir.as_str() == "landing/in");
             assert!(rt; files.shape.format == Format::Csv && files.shape.sep == b'\t');
-            assert!(rt; files.shape.header && files.shape.rescued);
+            assert!(rt; !files.shape.header && files.shape.rescued);
             assert!(rt; are_wanted(files.shape.columns.as_slice()));
         }
         Err(end) => assert!(rt; false, "{end}"),
@@ -298,11 +298,11 @@ fn options_give_a_shape(rt: HostRuntime) -> Result<(), Fail> {
 fn a_separator_and_a_header_need_not_be_said(rt: HostRuntime) -> Result<(), Fail> {
     let alloc = rt.alloc();
     let path = Text::new(alloc, "in")?;
-    let options = text_options(alloc, &[("format", "json"), ("schema", "a INT")])?;
+    let options = text_options(alloc, &[("format", "csv"), ("schema", "a INT")])?;
     match files_of(alloc, &path, &options) {
         Ok(files) => {
-            assert!(rt; files.shape.format == Format::Json && files.shape.sep == b',');
-            assert!(rt; !files.shape.header && !files.shape.rescued);
+            assert!(rt; files.shape.format == Format::Csv && files.shape.sep == b',');
+            assert!(rt; files.shape.header && !files.shape.rescued);
             assert!(rt; files.shape.columns.len() == 1);
         }
         Err(end) => assert!(rt; false, "{end}"),

@@ -1,4 +1,3 @@
 pub mod Columns
 pub mod Eval
 pub mod Kinds
-pub mod Typing

@@ -1,19 +1,18 @@
-//! Typed expressions over a row.
+//! Typed expressions over a row: their kinds and their values.
 #![tactic(auto)]
 
 mod evaluation;
 mod expr;
 mod fault;
-mod operand;
+mod laws;
 mod operators;
-mod sort;
-mod typing;
+pub mod sort;
 
 pub use evaluation::eval;
 pub use expr::{Arithmetic, Arm, Comparison, Expr};
 pub use fault::RowFault;
+pub use laws::a_typed_value_fits_its_kind;
 pub use sort::Sort;
-pub use typing::{TypeEnd, typed};
 
 #[cfg(test)]
 mod tests;

@@ -6,7 +6,7 @@ use Rattle.sql_tree.specs.declared.statement.SqlItem.{SqlItem}
 use Rattle.sql_tree.specs.declared.statement.SqlOrigin.{SqlOrigin}
 use Rattle.sql_tree.specs.declared.statement.SqlOrigin.TheVariants as origin
 use Rattle.value_core.specs.declared.schema.Column.{Column}
-use Rattle.row_expr.specs.Typing.{all, all_from}
+use Rattle.expr_typing.specs.Typing.{all, all_from}
 use Rattle.type_check.specs.Form.{is_there, declared_column, is_plain_select, form_over, form_with, reads_files}
 
 one_there : {A B : Type 0} (make : A → Option B) (so_far : List B) (made : Option B) (more : List A) →

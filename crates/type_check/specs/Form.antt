@@ -16,7 +16,7 @@ use Rattle.sql_tree.specs.declared.statement.Statement.{Statement}
 use Rattle.sql_tree.specs.declared.statement.Statement.TheVariants as statement
 use Rattle.value_core.specs.declared.schema.Column.{Column}
 use Rattle.value_core.specs.declared.value.Kind.{Kind}
-use Rattle.row_expr.specs.Typing.{all, kind_of_type}
+use Rattle.expr_typing.specs.Typing.{all, kind_of_type}
 use Rattle.plan_core.specs.Sound.{is_empty}
 
 -- what a statement of this form says

@@ -7,7 +7,7 @@ use Rattle.value_core.specs.NameFold.{same_name}
 use Rattle.row_expr.specs.declared.expr.Expr.{Expr}
 use Rattle.row_expr.specs.declared.expr.Expr.TheVariants as expr
 use Rattle.row_expr.specs.Kinds.{same_kind}
-use Rattle.row_expr.specs.Typing.{first_of, has_column, if_unknown}
+use Rattle.expr_typing.specs.Typing.{first_of, has_column, if_unknown}
 use Rattle.type_check.specs.declared.outputs.Output.{Output}
 use Rattle.type_check.specs.Form.{column, plain_name}
 

@@ -6,7 +6,7 @@ use Rattle.sql_tree.specs.declared.statement.Statement.{Statement}
 use Rattle.sql_tree.specs.Print.{print}
 use Rattle.sql_tree.specs.Spelling.{spelled}
 use Rattle.value_core.specs.declared.schema.Column.{Column}
-use Rattle.row_expr.specs.Typing.{first_of}
+use Rattle.expr_typing.specs.Typing.{first_of}
 use Rattle.plan_core.specs.declared.flow.AppendFlow.{AppendFlow}
 use Rattle.plan_core.specs.declared.flow.Origin.TheVariants.{Files}
 use Rattle.plan_core.specs.declared.plan.Body.TheVariants.{Append}

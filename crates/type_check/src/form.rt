@@ -3,7 +3,7 @@
 ghost use Rattle.std.specs.Prelude.{◌≡◌, ◌&&◌, IfOk, map};
 ghost use Rattle.std.specs.List.{list_all};
 ghost use Rattle.std.specs.Option.{option_copied};
-ghost use Rattle.row_expr.specs.Typing.{all, kind_of_type};
+ghost use Rattle.expr_typing.specs.Typing.{all, kind_of_type};
 ghost use Rattle.type_check.specs.Form as spec;
 
 use sql_tree::{Out, Select, SqlExpr, SqlItem, SqlOrigin, SqlType, Statement};

@@ -3,7 +3,7 @@
 ghost use Rattle.std.specs.Prelude.{◌≡◌};
 ghost use Rattle.std.specs.Option.{option_copied};
 ghost use Rattle.row_expr.specs.Kinds as kinds;
-ghost use Rattle.row_expr.specs.Typing as typing;
+ghost use Rattle.expr_typing.specs.Typing as typing;
 ghost use Rattle.type_check.specs.Outputs as spec;
 
 use value_core::{Column, Kind, Name};

@@ -2,7 +2,7 @@
 
 ghost use Rattle.std.specs.Prelude.{◌≡◌, ◌++◌, IfOk, OnOk, OnErr, map, position, option_to_list};
 ghost use Rattle.std.specs.Option.{option_copied};
-ghost use Rattle.row_expr.specs.Typing.{if_unknown};
+ghost use Rattle.expr_typing.specs.Typing.{if_unknown};
 ghost use Rattle.value_core.specs.NameFold.{same_name};
 ghost use Rattle.type_check.specs.Outputs as spec;
 

@@ -1,5 +1,5 @@
 use Rattle.std.proofs.Common.{◌≡◌, drop, map}
-use Rattle.row_expr.specs.Typing.{all, all_from}
+use Rattle.expr_typing.specs.Typing.{all, all_from}
 use Rattle.type_check.specs.Form.{declared_column}
 use Rattle.type_check.proofs.form.declared_columns.Given as goal
 

@@ -1,13 +1,13 @@
 ghost use Rattle.std.specs.Prelude.{◌≡◌, map};
 ghost use Rattle.std.specs.Option.{option_copied, option_or};
-ghost use Rattle.row_expr.specs.Typing.{Answers, Gives, typing};
-ghost use Rattle.row_expr.specs.Typing as spec;
+ghost use Rattle.expr_typing.specs.Typing.{Answers, Gives, typing};
+ghost use Rattle.expr_typing.specs.Typing as spec;
 
-use crate::expr::Expr;
 use crate::operand::{
     Branches, Made, Operands, among, between, binary, cast, choice, column, first_known, guarded,
     literal, negate, null_test, number_literal, opposite, text_literal, within,
 };
+use row_expr::Expr;
 use sql_tree::{SqlArm, SqlExpr};
 use std::alloc::{AllocError, Global};
 use value_core::{Column, ListOf, Name, Schema, Value};
@@ -71,9 +71,11 @@ fn if_unknown<'a>(name: &'a Name, columns: &[Column]) -> Option<&'a Name>
     }
 }
 
-/// The first name from the left that no column has.
+/// The first name from the left that no column has, but for the case of ASCII letters; `None` where
+/// each is the name of a column. A check of several expressions asks it of each before it types
+/// one, so that an unknown name is told before kinds that don't meet. Takes no memory.
 #[cycle(unknown)]
-fn first_unknown<'a>(tree: &'a SqlExpr, columns: &[Column]) -> Option<&'a Name>
+pub fn first_unknown<'a>(tree: &'a SqlExpr, columns: &[Column]) -> Option<&'a Name>
     ensures { option_copied result ≡ spec.first_unknown columns.now tree.now }
 {
     match tree {

@@ -1,7 +1,7 @@
 use Rattle.std.proofs.Common.{◌≡◌, drop}
 use Rattle.std.specs.Prelude.{map}
-use Rattle.row_expr.specs.Typing as spec
-use Rattle.row_expr.proofs.typing.+operand.Given as goal
+use Rattle.expr_typing.specs.Typing as spec
+use Rattle.expr_typing.proofs.typing.+operand.Given as goal
 
 -- the arms so far, and then those that are left
 abbrev pub invariant-branches_of-loop-arm : goal.invariant-branches_of-loop-arm

@@ -1,7 +1,7 @@
 use Rattle.std.proofs.Common.{◌≡◌}
 use Rattle.std.specs.Prelude.{map}
-use Rattle.row_expr.specs.Typing as spec
-use Rattle.row_expr.proofs.operand.all_widened_to.Given as goal
+use Rattle.expr_typing.specs.Typing as spec
+use Rattle.expr_typing.proofs.operand.all_widened_to.Given as goal
 
 -- the operands so far are widened
 abbrev pub invariant-loop-operand : goal.invariant-loop-operand

@@ -1,7 +1,7 @@
 use Rattle.std.proofs.Common.{◌≡◌, drop}
 use Rattle.std.specs.Prelude.{map}
-use Rattle.row_expr.specs.Typing as spec
-use Rattle.row_expr.proofs.operand.wide_join_results.Given as goal
+use Rattle.expr_typing.specs.Typing as spec
+use Rattle.expr_typing.proofs.operand.wide_join_results.Given as goal
 
 -- the results that are left are joined to those so far
 abbrev pub invariant-loop-branch : goal.invariant-loop-branch

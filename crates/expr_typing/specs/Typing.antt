@@ -27,11 +27,11 @@ use Rattle.row_expr.specs.declared.expr.Expr.{Expr}
 use Rattle.row_expr.specs.declared.expr.Expr.TheVariants as e
 use Rattle.row_expr.specs.declared.sort.Sort.{Sort}
 use Rattle.row_expr.specs.declared.sort.Sort.TheVariants.{Ill, Any, Of}
-use Rattle.row_expr.specs.declared.operand.Operand.{Operand}
-use Rattle.row_expr.specs.declared.operand.Branch.{Branch}
-use Rattle.row_expr.specs.declared.operand.Limits.{Limits}
-use Rattle.row_expr.specs.declared.typing.TypeEnd.{TypeEnd}
-use Rattle.row_expr.specs.declared.typing.TypeEnd.TheVariants as answer
+use Rattle.expr_typing.specs.declared.operand.Operand.{Operand}
+use Rattle.expr_typing.specs.declared.operand.Branch.{Branch}
+use Rattle.expr_typing.specs.declared.operand.Limits.{Limits}
+use Rattle.expr_typing.specs.declared.typing.TypeEnd.{TypeEnd}
+use Rattle.expr_typing.specs.declared.typing.TypeEnd.TheVariants as answer
 use Rattle.row_expr.specs.Kinds.{join, number, text, truth, where_of, where_formed, is_condition, calculated, sort_of_value}
 
 -- ---- names

@@ -1,16 +1,16 @@
 ghost use Rattle.std.specs.Prelude.{◌≡◌, List, Option, map, option_and_then, position};
 ghost use Rattle.value_core.specs.NameFold.{same_name};
-ghost use Rattle.row_expr.specs.declared.operand.Branch.{Branch};
-ghost use Rattle.row_expr.specs.declared.operand.Limits.{Limits};
-ghost use Rattle.row_expr.specs.declared.operand.Operand.{Operand};
-ghost use Rattle.row_expr.specs.Typing.{Gives};
-ghost use Rattle.row_expr.specs.Typing as spec;
+ghost use Rattle.expr_typing.specs.declared.operand.Branch.{Branch};
+ghost use Rattle.expr_typing.specs.declared.operand.Limits.{Limits};
+ghost use Rattle.expr_typing.specs.declared.operand.Operand.{Operand};
+ghost use Rattle.expr_typing.specs.Typing.{Gives};
+ghost use Rattle.expr_typing.specs.Typing as spec;
 
-use crate::expr::{Arithmetic, Arm, Comparison, Expr};
-use crate::sort::{
+use row_expr::sort::{
     Sort, calculated, is_condition, join, number, sort_of_value, text, truth, where_formed,
     where_of,
 };
+use row_expr::{Arithmetic, Arm, Comparison, Expr};
 use sql_tree::{SqlOp, SqlType};
 use sqlite_items::{Boxed, Items};
 use std::alloc::{AllocError, Global};

@@ -1,7 +1,7 @@
 use Rattle.std.proofs.Common.{◌≡◌, drop}
 use Rattle.std.specs.Prelude.{map}
-use Rattle.row_expr.specs.Typing as spec
-use Rattle.row_expr.proofs.typing.+unknown.Given as goal
+use Rattle.expr_typing.specs.Typing as spec
+use Rattle.expr_typing.proofs.typing.+unknown.Given as goal
 
 -- no arm so far has an unknown name
 abbrev pub invariant-first_unknown_arm-loop-arm : goal.invariant-first_unknown_arm-loop-arm
