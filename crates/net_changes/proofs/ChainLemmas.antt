@@ -1,9 +1,8 @@
 -- The net change of several changes, from their rows alone.
-use Rattle.std.proofs.Common.{◌≡◌, ℕ, ◌+◌, ◌-◌, List, [], ◌∷◌, ◌++◌, refl, ◌∙◌, ap, arith}
+use Rattle.std.proofs.Common.{◌≡◌, ◌+◌, ◌-◌, List, [], ◌∷◌, ◌++◌, refl, ◌∙◌, ap, arith}
 use Rattle.std.proofs.lemmas.List.Sums.{sum_by-append}
 use Rattle.value_core.specs.declared.change.Change.{Change}
 use Rattle.value_core.specs.Bags.{count_of, surplus, net_change, changed}
-use Rattle.value_core.specs.Changes.{Holds}
 use Rattle.value_core.specs.Order.{Row}
 use Rattle.value_core.proofs.BagLemmas.{one, count-in_row_order, same_list}
 use Rattle.value_core.proofs.ChangeLemmas.{count-surplus}

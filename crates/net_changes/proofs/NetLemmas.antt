@@ -1,5 +1,5 @@
 -- The net change of two lists that agree before and behind.
-use Rattle.std.proofs.Common.{◌≡◌, ℕ, zero, suc, ◌+◌, ◌-◌, ◌<◌, ◌≤◌, Bool, true, false, cond, List, [], ◌∷◌, ◌++◌, length, map, slice_index_or, refl, sym, ap, ◌∙◌, subst, append_assoc, arith}
+use Rattle.std.proofs.Common.{◌≡◌, ℕ, zero, suc, ◌+◌, ◌-◌, ◌<◌, Bool, true, false, cond, List, [], ◌∷◌, ◌++◌, length, slice_index_or, refl, sym, ap, ◌∙◌, subst, append_assoc, arith}
 use Rattle.std.specs.declared.cmp.Ordering.{Ordering}
 use Rattle.std.specs.declared.cmp.Ordering.TheVariants.{Less, Equal, Greater}
 use Rattle.std.specs.Ordering.{is_gt, is_lt, ordering_reverse}
@@ -8,7 +8,6 @@ use Rattle.std.specs.List.Sorted.{IsPermutation, IsSorted}
 use Rattle.std.proofs.lemmas.List.{append-nil}
 use Rattle.std.proofs.lemmas.List.Sorted.{sum_by-IsPermutation}
 use Rattle.value_core.specs.OrderLaws.{row_order_total, rows_apart}
-use Rattle.value_core.specs.declared.change.Change.{Change}
 use Rattle.value_core.specs.Bags.{count_of, SameBag, in_row_order, surplus, net_change, IsLeast, IsInOrder}
 use Rattle.value_core.specs.Order.{Row, row_order, same_row}
 use Rattle.value_core.proofs.BagLemmas.{same_list, one_order, order-in_row_order, count-in_row_order, count-cons, held, least-itself, least-below}

@@ -1,4 +1,4 @@
-use Rattle.std.proofs.Common.{◌≡◌, sym, subst, refl}
+use Rattle.std.proofs.Common.{sym, subst}
 use Rattle.std.specs.List.Sorted.{IsPermutation}
 use Rattle.value_core.specs.Bags.{IsInOrder, SameBag}
 use Rattle.net_changes.proofs.NetLemmas.{sorted_order, same_bag}

@@ -1,5 +1,5 @@
-use Rattle.std.proofs.Common.{◌≡◌, sym, ◌∙◌, subst}
-use Rattle.value_core.specs.Bags.{IsInOrder, net_change}
+use Rattle.std.proofs.Common.{◌∙◌}
+use Rattle.value_core.specs.Bags.{net_change}
 use Rattle.net_changes.proofs.NetLemmas.{net_same}
 use Rattle.net_changes.proofs.merge.net.Goals as goal
 

@@ -1,4 +1,4 @@
-use Rattle.std.proofs.Common.{◌≡◌, ◌++◌, ◌∷◌, [], sym, ap, subst, ◌∙◌}
+use Rattle.std.proofs.Common.{◌++◌, ◌∷◌, [], sym, ap, subst, ◌∙◌}
 use Rattle.net_changes.proofs.NetLemmas.{Merges, merges_less, merges_greater, merges_equal, merges_old, merges_new, nothing}
 use Rattle.net_changes.proofs.merge.net_in_order.Goals as goal
 
