@@ -1,4 +1,5 @@
-ghost use Rattle.std.specs.Prelude.{◌≡◌, ◌++◌, List, [], None};
+ghost use Rattle.std.specs.Prelude.{◌≡◌, ◌++◌, List, [], None, filter_map, map};
+ghost use Rattle.std.specs.Option.{option_or};
 ghost use Rattle.value_core.specs.declared.event.Event.{Event};
 ghost use Rattle.value_core.specs.Bags.{SameBag};
 ghost use Rattle.value_core.specs.EventOrder.{event_order, sorted_by};
@@ -11,7 +12,8 @@ ghost use Rattle.flow_model.specs.Admission.{counts};
 ghost use Rattle.value_core.specs.Tallies.{added};
 ghost use Rattle.flow_model.specs.Append.{append_out, append_seen, append_stop};
 ghost use Rattle.flow_model.specs.Events.{fresh};
-ghost use Rattle.flow_model.specs.Feed.{events, feed_seen, feed_stop, given};
+ghost use Rattle.flow_model.specs.Feed.{events, feed_seen, feed_stop, given, upsert_in};
+ghost use Rattle.flow_model.specs.Halts.{feed_halt, first_tie, front, front_events, numbered_from, readings};
 ghost use Rattle.flow_model.specs.Views.{viewed};
 ghost use Rattle.flow_model.specs.WorkedEvents as events;
 ghost use Rattle.flow_model.specs.WorkedRows as rows;
@@ -69,6 +71,18 @@ pub fn feed_batches_add_up()
         → feed_seen cdc xs (rows ++ more) ≡ feed_seen cdc xs rows ++ feed_seen cdc xs more }
 {}
 
+/// A law: a feed stops at the first tie among the events before its halt, and else by its halt. Where
+/// it has no halt, these events are those of all rows, and the counted upserts too.
+pub fn ties_are_judged_first()
+    ensures stop { (cdc : Cdc) (xs : List Expectation) (rows : List Row) (old : List Event)
+        → feed_stop cdc xs rows old ≡ option_or (first_tie old (front_events cdc xs rows)) (feed_halt cdc xs rows) }
+    ensures whole { (cdc : Cdc) (xs : List Expectation) (rows : List Row) → feed_halt cdc xs rows ≡ None → front cdc xs rows ≡ readings cdc xs rows }
+    ensures events { (cdc : Cdc) (xs : List Expectation) (rows : List Row)
+        → map (λ n. n.event) (numbered_from 1 (readings cdc xs rows)) ≡ given cdc xs rows }
+    ensures seen { (cdc : Cdc) (xs : List Expectation) (rows : List Row)
+        → filter_map upsert_in (readings cdc xs rows) ≡ feed_seen cdc xs rows }
+{}
+
 /// A law: the events of a change feed depend on the bag of its rows alone, where none stops it.
 pub fn feed_takes_a_bag()
     ensures goes_on { (cdc : Cdc) (xs : List Expectation) (rows others : List Row)
@@ -118,4 +132,10 @@ pub fn flows_are_worked()
     ensures grouped { rows.Grouped }
     ensures read_feed { rows.ReadFeed }
     ensures no_sequence { rows.NoSequence }
+    ensures where_first { rows.WhereFirst }
+    ensures left_first { rows.LeftFirst }
+    ensures failure_first { rows.FailureFirst }
+    ensures passed_over { rows.PassedOver }
+    ensures dropped_upsert { rows.DroppedUpsert }
+    ensures tied_row { rows.TiedRow }
 {}
