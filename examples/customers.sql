@@ -3,6 +3,6 @@
 CREATE OR REFRESH STREAMING TABLE customers
 COMMENT 'customers as they arrive'
 AS SELECT * FROM STREAM read_files('customers',
-  format => 'csv', header => true,
+  format => 'csv',
   schema => 'id INT, name STRING, city STRING',
   rescuedDataColumn => '_rescued_data')
