@@ -309,6 +309,7 @@ chosen_gives s (arm ∷ more) other f g = by_condition arm.0 (chosen_gives s mor
     by_test : (yes : Bool) → Gives s (spec.chosen more other) → Gives s (if yes then arm.1 else spec.chosen more other)
     by_test true rest = f.0
     by_test false rest = rest
+
     by_condition : (condition : Outcome) → Gives s (spec.chosen more other) → Gives s (spec.and_then (λ value. if is_true value then arm.1 else spec.chosen more other) condition)
     by_condition (Err fault) rest = tt
     by_condition (Ok value) rest = by_test (is_true value) rest

@@ -23,7 +23,6 @@ use Rattle.row_expr.specs.Kinds as kinds
 use Rattle.row_expr.proofs.Fitting.{Gives, and_parts, left_gives, right_gives, itself_gives, of_gives, formed_gives, truth_gives, literal_fits, column_fits, negate_gives, widen_gives, arithmetic_gives, concat_gives, compare_gives, conjunction_gives, disjunction_gives, opposite_gives, null_test_gives, listed_gives, within_gives, chosen_gives, known_gives, cast_gives, try_cast_gives, ill}
 
 module _ (columns : List Kind) (row : Row) (fits : row_fits columns row ≡ true) where
-
   -- where the columns that are read fit, the value fits
   abbrev At : Bool → Sort → Outcome → Type 0
   At reads s o = reads ≡ true → Gives s o
