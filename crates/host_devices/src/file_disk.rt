@@ -17,11 +17,26 @@ const ROOM: u64 = 1 << 40;
 struct Lazy<'a> {
     path: &'a str,
     file: Option<File>,
+    /// Whether the folder was synced that has the file's name.
+    named: bool,
 }
 
 impl<'a> Lazy<'a> {
     fn new(path: &'a str) -> Lazy<'a> {
-        Lazy { path, file: None }
+        Lazy {
+            path,
+            file: None,
+            named: false,
+        }
+    }
+}
+
+/// The folder that has the name of the file at a path.
+fn folder_of(path: &str) -> &str {
+    match path.rsplit_once('/') {
+        Some(("", _)) => "/",
+        Some((folder, _)) => folder,
+        None => ".",
     }
 }
 
@@ -88,16 +103,24 @@ fn shorten<R: Files<File = File>>(rt: &R, lazy: &mut Lazy, to: u64) -> io::Resul
     }
 }
 
+/// Syncs the file, and at the first call its folder too. A file's sync keeps its bytes and not its name in
+/// the folder, so a power cut could lose a file that was just made. The folder is synced whoever made the
+/// file, since a run that made it may have been broken off before it came to that.
 fn flush<R: Files<File = File>>(rt: &R, lazy: &mut Lazy) -> io::Result<()> {
     open(rt, lazy)?;
     match &lazy.file {
-        Some(file) => file.sync_all(),
-        None => Err(ErrorKind::NotFound.into()),
+        Some(file) => file.sync_all()?,
+        None => return Err(ErrorKind::NotFound.into()),
     }
+    if !lazy.named {
+        File::open(rt, folder_of(lazy.path))?.sync_all()?;
+        lazy.named = true;
+    }
+    Ok(())
 }
 
 /// Two files of the operating system, each opened at the first call on it and made where it is
-/// missing. Each may get 2^40 bytes long.
+/// missing. Each may get 2^40 bytes long. The first sync of a file syncs its name in its folder too.
 #[derive(Drop)]
 pub struct FileDisk<'a, R: Files<File = File>> {
     rt: &'a R,

@@ -25,8 +25,8 @@ impl<'a, R: Print> PrintSink<'a, R> {
     }
 }
 
-/// Prints the whole piece, and says how many bytes that are. Where nothing of what is left is
-/// taken, that is an error.
+/// Prints until the output has taken as many bytes as the piece has, and answers that number. It is an
+/// error where the output takes none before that.
 fn print_whole<R: Print>(rt: &R, piece: &[u8]) -> io::Result<usize>
     ensures { IfOk result (λ n. n ≡ length piece.now) }
 {

@@ -17,7 +17,23 @@ fn files_are_written_read_and_cut(rt: HostRuntime) -> Result<(), Fail> {
     assert!(rt; disk.read_at(Side::Left, 1, &mut read).is_err());
     assert!(rt; disk.len(Side::Right) == Ok(0));
     assert_eq!(rt; disk.faults(), 1);
+    let mut second = FileDisk::new(&rt, "disk_here/s.left", "disk_here/s.right");
+    assert!(rt; second.len(Side::Left) == Ok(2));
+    assert!(rt; second.read_at(Side::Left, 0, &mut read).is_ok());
+    assert!(rt; read == *b"ab");
+    assert!(rt; second.sync(Side::Left).is_ok());
+    assert_eq!(rt; second.faults(), 0);
     fs::remove_dir_all(&rt, "disk_here")?;
+    Ok(())
+}
+
+#[test]
+fn a_file_with_no_folder_in_its_path_is_made_and_synced(rt: HostRuntime) -> Result<(), Fail> {
+    let mut disk = FileDisk::new(&rt, "bare.left", "none_here/bare.right");
+    assert!(rt; disk.sync(Side::Left).is_ok());
+    assert!(rt; disk.sync(Side::Right).is_err());
+    assert_eq!(rt; disk.faults(), 1);
+    fs::remove_file(&rt, "bare.left")?;
     Ok(())
 }
 

@@ -14,8 +14,9 @@ fn place_behind(at: u64, done: usize) -> io::Result<u64> {
     }
 }
 
-/// Fills `into` with the bytes at a place, and says how many these are. A file that ends before
-/// that is an error.
+/// Reads from a place until the system has given as many bytes as `into` has, and answers that number.
+/// It is an error where the system gives none before that, as at the file's end. Which bytes came is the
+/// system's, and no clause says it.
 pub(crate) fn read_whole(file: &File, at: u64, into: &mut [u8]) -> io::Result<usize>
     ensures { IfOk result (λ n. n ≡ length into.old) }
 {
@@ -30,7 +31,8 @@ pub(crate) fn read_whole(file: &File, at: u64, into: &mut [u8]) -> io::Result<us
     Ok(done)
 }
 
-/// Writes the whole piece at a place, and says how many bytes that are.
+/// Writes at a place until the system has taken as many bytes as the piece has, and answers that number.
+/// It is an error where the system takes none before that.
 pub(crate) fn write_whole(file: &File, at: u64, piece: &[u8]) -> io::Result<usize>
     ensures { IfOk result (λ n. n ≡ length piece.now) }
 {
