@@ -8,6 +8,7 @@ pub mod NewsLemmas
 pub mod ReachLemmas
 pub mod RowLemmas
 pub mod RunLemmas
+pub mod SparedLemmas
 pub mod StandFresh
 pub mod StandFronts
 pub mod StandListing
