@@ -3,6 +3,7 @@ pub mod CommitLemmas
 pub mod ContentLemmas
 pub mod CrashLemmas
 pub mod EndLemmas
+pub mod FitLemmas
 pub mod FlowLemmas
 pub mod NewsLemmas
 pub mod ReachLemmas

@@ -99,3 +99,12 @@ module _ (timed : Type 0) (plan : Option AppendTable) (files : List LandingFile)
       → UpdateRan timed plan files room_now (log_end (store_log first)) (store_state first) end store mid new → IsHonest new → Updated timed plan (found_on old room files) end old new
   updated_loaded end store mid new room_now same loads synced ran honest =
       updated_ran end store mid new loads synced (subst (λ (r : ℕ). UpdateRan timed plan files r (log_end (store_log first)) (store_state first) end store mid new) same ran) honest
+
+-- ---- a load stops no flow
+
+pub load_never_stops : (refusal : StoreRefusal) (name : List ℕ) (cursor size : ℕ) → end_of_load refusal ≡ update.Shrunk name cursor size → ⊥
+load_never_stops (Foreign side len) name cursor size is = cc
+load_never_stops (Damaged side at) name cursor size is = cc
+load_never_stops (Full end free) name cursor size is = cc
+load_never_stops Failed name cursor size is = cc
+load_never_stops Memory name cursor size is = cc

@@ -1,5 +1,5 @@
 // One update.
-ghost use Rattle.std.specs.Prelude.{◌≡◌, ◌≤◌, ℕ, None, IsTrue};
+ghost use Rattle.std.specs.Prelude.{◌≡◌, ◌≤◌, ℕ, List, None, Some, IsTrue};
 ghost use Rattle.std.specs.Option.{option_copied};
 ghost use Rattle.disk_model.specs.declared.disk.Side.TheVariants.{Left, Right};
 ghost use Rattle.disk_model.specs.Disk.{IsHonest, file};
@@ -60,6 +60,7 @@ fn go_on<D: Disk, L: Landing>(
     ensures present { L.tells → L.present landing.new ≡ L.present landing.old }
     ensures ever { L.tells → L.ever landing.new ≡ L.ever landing.old }
     ensures own { IsOfRun result }
+    ensures shrunk_of { (file : List ℕ) (cursor size : ℕ) → result ≡ UpdateEnd.Shrunk file cursor size → (given : AppendTable) × (option_copied table.entry ≡ Some given) }
     ensures commit_fault { result ≡ UpdateEnd.CommitFailed → Rose (D.faults disk.old) (D.faults disk.new) }
     ensures landing_fault { result ≡ UpdateEnd.LandingFailed → Rose (L.faults landing.old) (L.faults landing.new) }
     ensures disk_later { D.faults disk.old ≤ D.faults disk.new }
@@ -124,6 +125,8 @@ pub fn update<D: Disk, L: Landing>(
     ensures load_fault { result ≡ UpdateEnd.LoadFailed → Rose (D.faults disk.old) (D.faults disk.new) }
     ensures commit_fault { result ≡ UpdateEnd.CommitFailed → Rose (D.faults disk.old) (D.faults disk.new) }
     ensures landing_fault { result ≡ UpdateEnd.LandingFailed → Rose (L.faults landing.old) (L.faults landing.new) }
+    // Over any devices: without a table no flow stops.
+    ensures shrunk_of { (file : List ℕ) (cursor size : ℕ) → result ≡ UpdateEnd.Shrunk file cursor size → (given : AppendTable) × (option_copied table.entry ≡ Some given) }
 {
     match Store::load(alloc, disk) {
         Ok(mut store) => go_on(alloc, disk, landing, table, &mut store),

@@ -1,5 +1,5 @@
 use Rattle.std.specs.Option.{option_copied}
-use Rattle.std.proofs.Common.{refl, sym, subst}
+use Rattle.std.proofs.Common.{refl, sym, ◌∙◌, subst}
 use Rattle.disk_model.specs.declared.disk.Side.TheVariants.{Left}
 use Rattle.disk_model.specs.Disk.{file}
 use Rattle.store_core.specs.Store.{store_log}
@@ -9,7 +9,7 @@ use Rattle.table_update.specs.declared.end.UpdateEnd.{UpdateEnd}
 use Rattle.table_update.specs.Crash.{Updated}
 use Rattle.table_update.proofs.StandingLemmas.{keeps_standing}
 use Rattle.table_update.proofs.SparedLemmas.{loaded_goes_on, refused_file}
-use Rattle.table_update.proofs.UpdateLemmas.{found_on, updated_loaded, updated_refused}
+use Rattle.table_update.proofs.UpdateLemmas.{found_on, load_never_stops, updated_loaded, updated_refused}
 use Rattle.table_update.proofs.one_update.update.Goals as goal
 
 -- ---- the store was loaded
@@ -83,3 +83,8 @@ pub returns-in-Err-clause-goes_on : goal.returns-in-Err-clause-goes_on
 returns-in-Err-clause-goes_on g c = λ told at log.
     let old = g.D.Disk.state c.args.disk.now in
     spared_goes_on g.D.Disk.tells_moments at old (g.D.Disk.state c.load.new.disk) (log_within at (file Left old.now) log) (c.load.ensures.spared told (log_spared (g.D.Disk.room c.args.disk.now) at (file Left old.now) log))
+
+-- ---- which end stops no flow
+
+pub returns-in-Err-clause-shrunk_of : goal.returns-in-Err-clause-shrunk_of
+returns-in-Err-clause-shrunk_of g c = λ name cursor size is. absurd (load_never_stops c.in-Err.refusal name cursor size (sym c.end_of_load.ensures ∙ is))
