@@ -68,25 +68,25 @@ spared timed old mid new untouched each same = subst (IsSpared timed old) (sym s
 
 -- ---- a log goes on
 
+longer_than : (at : ℕ) (start : List ℕ) (next : ℕ) (rest bytes : List ℕ) → at ≡ length start → bytes ≡ start ++ next ∷ rest → at < length bytes
+longer_than at start next rest bytes is whole = omega (arith, is, ap (λ (l : List ℕ). length l) whole, length-append start (next ∷ rest))
+
 within : (epoch at : ℕ) (bodies : List (List ℕ)) (bytes : List ℕ) → at ≡ length (log_bytes epoch bodies) → HasBodies epoch bodies bytes → at < length bytes
-within epoch at bodies bytes is has =
-    let long : length (log_bytes epoch bodies ++ has.gate ∷ has.rest) ≡ length (log_bytes epoch bodies) + (length has.rest + 1) = length-append (log_bytes epoch bodies) (has.gate ∷ has.rest) in
-    omega (arith, is, ap (λ (l : List ℕ). length l) has.whole, long)
+within epoch at bodies bytes is has = longer_than at (log_bytes epoch bodies) has.gate has.rest bytes is has.whole
+
+starts_with : (at : ℕ) (start behind bytes : List ℕ) → at ≡ length start → bytes ≡ start ++ behind → take at bytes ≡ start
+starts_with at start behind bytes is whole = ap (λ (l : List ℕ). take at l) whole ∙ take_at start behind at (sym is)
 
 front : (epoch at : ℕ) (bodies : List (List ℕ)) (bytes : List ℕ) → at ≡ length (log_bytes epoch bodies) → HasBodies epoch bodies bytes → take at bytes ≡ log_bytes epoch bodies
-front epoch at bodies bytes is has = ap (λ (l : List ℕ). take at l) has.whole ∙ take_at (log_bytes epoch bodies) (has.gate ∷ has.rest) at (sym is)
+front epoch at bodies bytes is has = starts_with at (log_bytes epoch bodies) (has.gate ∷ has.rest) bytes is has.whole
 
 -- with one body more
 longer : (epoch at : ℕ) (bodies : List (List ℕ)) (body bytes : List ℕ) → at ≡ length (log_bytes epoch bodies) → HasBodies epoch (bodies ++ body ∷ []) bytes → (take at bytes ≡ log_bytes epoch bodies) × (at < length bytes)
 longer epoch at bodies body bytes is has =
-    let all = log_bytes epoch (bodies ++ body ∷ []) in
-    let parts : all ≡ log_bytes epoch bodies ++ open_gate ∷ framed body = log_bytes-push epoch bodies body in
-    let behind = (open_gate ∷ framed body) ++ has.gate ∷ has.rest in
-    let whole : bytes ≡ log_bytes epoch bodies ++ behind =
-        has.whole ∙ ap (λ (l : List ℕ). l ++ has.gate ∷ has.rest) parts ∙ append_assoc (log_bytes epoch bodies) (open_gate ∷ framed body) (has.gate ∷ has.rest) in
-    let long : length all ≡ length (log_bytes epoch bodies) + (length (framed body) + 1) = ap (λ (l : List ℕ). length l) parts ∙ length-append (log_bytes epoch bodies) (open_gate ∷ framed body) in
-    let last = within epoch (length all) (bodies ++ body ∷ []) bytes refl has in
-    (ap (λ (l : List ℕ). take at l) whole ∙ take_at (log_bytes epoch bodies) behind at (sym is), omega (arith, is, long, last))
+    let behind : List ℕ = framed body ++ has.gate ∷ has.rest in
+    let whole : bytes ≡ log_bytes epoch bodies ++ open_gate ∷ behind =
+        has.whole ∙ ap (λ (l : List ℕ). l ++ has.gate ∷ has.rest) (log_bytes-push epoch bodies body) ∙ append_assoc (log_bytes epoch bodies) (open_gate ∷ framed body) (has.gate ∷ has.rest) in
+    (starts_with at (log_bytes epoch bodies) (open_gate ∷ behind) bytes is whole, longer_than at (log_bytes epoch bodies) open_gate behind bytes is whole)
 
 -- an image of an append
 pub image_goes_on : (may_be_there : Type 0) (epoch at : ℕ) (bodies : List (List ℕ)) (body bytes image : List ℕ) → at ≡ length (log_bytes epoch bodies) → HasBodies epoch bodies bytes

@@ -2,11 +2,11 @@ use Rattle.std.proofs.Common.{inl, inr, ⊎_elim, ◌^◌, ◌≤◌, [], length
 use Rattle.std.proofs.lemmas.Result.{err_from_is_err_and}
 use Rattle.disk_model.specs.declared.disk.Side.TheVariants.{Left}
 use Rattle.disk_model.specs.Disk.{file}
-use Rattle.commit_gate.specs.Found.{IsFoundIn, EndsIfLive}
+use Rattle.commit_gate.specs.Found.{IsFoundIn, IsOfIfLive, EndsIfLive}
 use Rattle.commit_gate.specs.AtRest.{log_epoch}
 use Rattle.commit_gate.specs.Log.{IsDead}
 use Rattle.commit_gate.proofs.LoadLemmas.{log_length}
-use Rattle.commit_gate.proofs.UniqueLemmas.{bodies_live}
+use Rattle.commit_gate.proofs.UniqueLemmas.{bodies_live, one_epoch}
 use Rattle.store_core.specs.Begin.{BeginAnswers}
 use Rattle.store_core.specs.declared.store.Store.{Store}
 use Rattle.store_core.proofs.BeginLemmas.{loads_synced, loads_on, moments_read, moments_on, moments_synced, moments_synced_on}
@@ -222,3 +222,17 @@ returns-in_ok-log-in-Shut-clause-spared g c = λ told never.
     let found = subst (IsFoundIn bytes) c.in-Shut.is (c.in_ok-log.ensures.found told) in
     let answers = c.in_ok-log-in-Shut.ensures.answers in
     absurd (never ((found.0, omega (arith, found.1, answers.0)), omega (arith, answers.1, c.load.ensures.room)))
+
+-- ---- a live log keeps its number
+
+pub returns-in_ok-contents-in-Live-clause-same_epoch : goal.returns-in_ok-contents-in-Live-clause-same_epoch
+returns-in_ok-contents-in-Live-clause-same_epoch g c = λ told epoch small live.
+    let bytes = file Left (g.D.Disk.state c.args.disk.now).now in
+    let has = subst (IsFoundIn bytes) c.in-Live.is (c.in_ok-log.ensures.found told) in
+    let of = subst (IsOfIfLive Left) c.in-Live.is c.in_ok-log.ensures.of in
+    one_epoch (log_epoch c.in-Live.log) epoch bytes of.1 small (bodies_live (log_epoch c.in-Live.log) c.in-Live.bodies bytes has) live
+
+pub returns-in_ok-log-in-Shut-clause-same_epoch : goal.returns-in_ok-log-in-Shut-clause-same_epoch
+returns-in_ok-log-in-Shut-clause-same_epoch g c = λ told epoch small live.
+    let found = subst (IsFoundIn (file Left (g.D.Disk.state c.args.disk.now).now)) c.in-Shut.is (c.in_ok-log.ensures.found told) in
+    absurd (found.0 epoch live)
