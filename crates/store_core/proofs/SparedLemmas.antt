@@ -85,7 +85,7 @@ longer : (epoch at : ℕ) (bodies : List (List ℕ)) (body bytes : List ℕ) →
 longer epoch at bodies body bytes is has =
     let behind : List ℕ = framed body ++ has.gate ∷ has.rest in
     let whole : bytes ≡ log_bytes epoch bodies ++ open_gate ∷ behind =
-        has.whole ∙ ap (λ (l : List ℕ). l ++ has.gate ∷ has.rest) (log_bytes-push epoch bodies body) ∙ append_assoc (log_bytes epoch bodies) (open_gate ∷ framed body) (has.gate ∷ has.rest) in
+    has.whole ∙ ap (λ (l : List ℕ). l ++ has.gate ∷ has.rest) (log_bytes-push epoch bodies body) ∙ append_assoc (log_bytes epoch bodies) (open_gate ∷ framed body) (has.gate ∷ has.rest) in
     (starts_with at (log_bytes epoch bodies) (open_gate ∷ behind) bytes is whole, longer_than at (log_bytes epoch bodies) open_gate behind bytes is whole)
 
 -- an image of an append
