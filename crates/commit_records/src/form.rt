@@ -3,8 +3,10 @@ ghost use Rattle.std.specs.Prelude.{◌≡◌, ◌↔◌, IsTrue};
 ghost use Rattle.std.specs.Option.{SomeIff};
 ghost use Rattle.commit_records.specs.Forms as forms;
 ghost use Rattle.commit_records.specs.Forms.{IsProgress, IsBatch};
+ghost use Rattle.commit_records.specs.Payloads.{IsWritable};
 
 use crate::definition::{Definition, StoredBody, StoredFlow};
+use crate::payload::Payload;
 use crate::take::Take;
 use segment_rows::has_its_parts;
 use value_core::{Change, Cursor, Event, Name};
@@ -64,6 +66,32 @@ fn is_progress(cursor: &Cursor) -> bool
         Cursor::Files(places) => places.is_ascending(),
         Cursor::At(_) => true,
         Cursor::Never => true,
+    }
+}
+
+fn is_batch(take: &Take) -> bool
+    ensures { IsTrue result ↔ IsBatch take.now }
+{
+    if !is_progress(&take.cursor) {
+        return false;
+    }
+    if !take.change.is_net() {
+        return false;
+    }
+    all_have_their_parts(take.events.as_slice())
+}
+
+/// Whether a payload may be written. One in memory has its numbers and texts in range, so that this is
+/// whether it has a spelling.
+pub fn is_writable(payload: &Payload) -> bool
+    ensures { IsTrue result ↔ IsWritable payload.now }
+{
+    match payload {
+        Payload::Define { list, .. } => all_fit(list.as_slice()),
+        Payload::Take(take) => is_batch(take),
+        Payload::Refresh(_) => false,
+        Payload::Reset { .. } => false,
+        Payload::Base(_) => false,
     }
 }
 

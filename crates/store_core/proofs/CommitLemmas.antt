@@ -10,7 +10,7 @@ use Rattle.commit_gate.specs.declared.log.Log.{Log}
 use Rattle.commit_gate.proofs.RestLemmas.{image_of_rest, append_leaves}
 use Rattle.commit_records.specs.declared.payload.Payload.{Payload}
 use Rattle.commit_records.specs.Payloads.{spelled_payload}
-use Rattle.store_state.specs.State.{State, empty_state, after_payload, Follows}
+use Rattle.store_state.specs.State.{State, empty_state, after_payload, MayFollow}
 use Rattle.store_core.specs.State.{LeadsTo, HasState, HasStateOrNext}
 use Rattle.store_core.specs.Commit.{Commits, CommitsByGate}
 use Rattle.store_core.specs.Ours.{IsOurs}
@@ -28,13 +28,13 @@ pub leaves_still : (side : Side) (disk : DiskState) → LeavesFile side disk dis
 leaves_still side disk = record { now = refl; crash = λ files left. (files, left, refl) }
 
 -- what is allowed of one file, at another name of its side
-on_side : (side left : Side) (change allowed : List ℕ → List ℕ → Type 0) (was files : TwoFiles) → side ≡ left → ((a b : List ℕ) → change a b → allowed a b) → Alone side change was files → Alone left allowed was files
+pub on_side : (side left : Side) (change allowed : List ℕ → List ℕ → Type 0) (was files : TwoFiles) → side ≡ left → ((a b : List ℕ) → change a b → allowed a b) → Alone side change was files → Alone left allowed was files
 on_side side left change allowed was files same weaker alone =
     let there = subst (λ s. Alone s change was files) same alone in
     record { changed = weaker (file left was) (file left files) there.changed; kept = there.kept }
 
 module _ (log : Log) (bodies : List (List ℕ)) (state : State) (payload : Payload) (framed : List ℕ) (old : DiskState)
-    (side : log_side log ≡ Left) (leads : LeadsTo empty_state bodies state) (follows : Follows state payload) (spelled : framed ≡ spelled_payload payload) (rest : IsAtRest log bodies old) where
+    (side : log_side log ≡ Left) (leads : LeadsTo empty_state bodies state) (follows : MayFollow state payload) (spelled : framed ≡ spelled_payload payload) (rest : IsAtRest log bodies old) where
   before : (bytes : List ℕ) → HasBodies (log_epoch log) bodies bytes → HasState bytes state
   before bytes has = inl (record { epoch = log_epoch log; bodies = bodies; contents = has; leads = leads })
 

@@ -9,7 +9,7 @@ use Rattle.commit_gate.proofs.LoadLemmas.{log_length}
 use Rattle.commit_gate.proofs.UniqueLemmas.{bodies_live, one_bodies}
 use Rattle.commit_records.specs.declared.payload.Payload.{Payload}
 use Rattle.commit_records.specs.Payloads.{spelled_payload}
-use Rattle.store_state.specs.State.{State, empty_state, after_payload, Follows}
+use Rattle.store_state.specs.State.{State, empty_state, after_payload, MayFollow}
 use Rattle.store_core.specs.Reach.{IsReachable, EndsAt}
 use Rattle.store_core.specs.State.{LeadsTo, HasState}
 use Rattle.store_core.proofs.BodiesLemmas.{records-append}
@@ -21,7 +21,7 @@ state_reached bytes state (inl log) = record { bodies = log.bodies; leads = log.
 state_reached bytes state (inr begun) = record { bodies = []; leads = begun.1 }
 
 -- one payload more
-pub next_reached : (old new : State) (payload : Payload) → Follows old payload → new ≡ after_payload old payload → IsReachable old → IsReachable new
+pub next_reached : (old new : State) (payload : Payload) → MayFollow old payload → new ≡ after_payload old payload → IsReachable old → IsReachable new
 next_reached old new payload follows taken was =
     let bodies = was.bodies ++ spelled_payload payload ∷ [] in
     record {

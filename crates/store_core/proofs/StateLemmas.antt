@@ -6,17 +6,17 @@ use Rattle.commit_gate.proofs.LoadLemmas.{log_length}
 use Rattle.commit_records.specs.declared.payload.Payload.{Payload}
 use Rattle.commit_records.specs.Payloads.{spelled_payload}
 use Rattle.commit_records.proofs.PayloadLemmas.{one_payload}
-use Rattle.store_state.specs.State.{State, empty_state, after_payload, Follows}
+use Rattle.store_state.specs.State.{State, empty_state, after_payload, MayFollow}
 use Rattle.store_core.specs.Bodies.{IsUnfitIn}
 use Rattle.store_core.specs.State.{LeadsTo, IsUnfit, IsLogOf, IsBegun, HasState, IsForeign, IsUnfitAt, IsRefusedAt, KeepsState}
 
 -- one body more
-pub leads_more : (from : State) (bodies : List (List ℕ)) (mid : State) (body : List ℕ) (payload : Payload) → LeadsTo from bodies mid → body ≡ spelled_payload payload → Follows mid payload → LeadsTo from (bodies ++ body ∷ []) (after_payload mid payload)
-leads_more from [] mid body payload leads is follows = (payload, is, subst (λ state. Follows state payload) leads follows, ap (λ state. after_payload state payload) leads)
+pub leads_more : (from : State) (bodies : List (List ℕ)) (mid : State) (body : List ℕ) (payload : Payload) → LeadsTo from bodies mid → body ≡ spelled_payload payload → MayFollow mid payload → LeadsTo from (bodies ++ body ∷ []) (after_payload mid payload)
+leads_more from [] mid body payload leads is follows = (payload, is, subst (λ state. MayFollow state payload) leads follows, ap (λ state. after_payload state payload) leads)
 leads_more from (first ∷ bodies) mid body payload leads is follows = (leads.0, leads.1, leads.2, leads_more (after_payload from leads.0) bodies mid body payload leads.3 is follows)
 
 -- the same payload is spelled so
-same_payload : (from : State) (body : List ℕ) (one two : Payload) → body ≡ spelled_payload one → Follows from one → body ≡ spelled_payload two → Follows from two → one ≡ two
+same_payload : (from : State) (body : List ℕ) (one two : Payload) → body ≡ spelled_payload one → MayFollow from one → body ≡ spelled_payload two → MayFollow from two → one ≡ two
 same_payload from body one two is follows also too = one_payload one two follows.spelled too.spelled (sym is ∙ also)
 
 -- bodies lead to one state
@@ -43,7 +43,7 @@ pub none_unfit : (from : State) (before behind : List (List ℕ)) (body : List �
 none_unfit from before behind body mid to leads first unfit =
     let parts = leads_split from before (body ∷ behind) to leads in
     let same : parts.mid ≡ mid = leads_once from before parts.mid mid parts.first first in
-    unfit parts.then_on.0 parts.then_on.1 (subst (λ state. Follows state parts.then_on.0) same parts.then_on.2)
+    unfit parts.then_on.0 parts.then_on.1 (subst (λ state. MayFollow state parts.then_on.0) same parts.then_on.2)
 
 -- the first unfit body stands at one place
 pub first_unfit : (from : State) (before also : List (List ℕ)) (body other : List ℕ) (behind more : List (List ℕ)) (a b : State)
@@ -51,10 +51,10 @@ pub first_unfit : (from : State) (before also : List (List ℕ)) (body other : L
 first_unfit from [] [] body other behind more a b same one two unfit bad = refl
 first_unfit from [] (first ∷ also) body other behind more a b same one two unfit bad =
     let head : first ≡ body = cc in
-    absurd (unfit two.0 (sym head ∙ two.1) (subst (λ state. Follows state two.0) (sym one) two.2))
+    absurd (unfit two.0 (sym head ∙ two.1) (subst (λ state. MayFollow state two.0) (sym one) two.2))
 first_unfit from (first ∷ before) [] body other behind more a b same one two unfit bad =
     let head : first ≡ other = cc in
-    absurd (bad one.0 (sym head ∙ one.1) (subst (λ state. Follows state one.0) (sym two) one.2))
+    absurd (bad one.0 (sym head ∙ one.1) (subst (λ state. MayFollow state one.0) (sym two) one.2))
 first_unfit from (first ∷ before) (second ∷ also) body other behind more a b same one two unfit bad =
     let head : second ≡ first = cc in
     let tail : before ++ body ∷ behind ≡ also ++ other ∷ more = cc in

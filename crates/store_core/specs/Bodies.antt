@@ -4,14 +4,14 @@ use Rattle.disk_model.specs.declared.disk.Side.TheVariants.{Left}
 use Rattle.commit_gate.specs.Log.{records}
 use Rattle.commit_records.specs.declared.payload.Payload.{Payload}
 use Rattle.commit_records.specs.Payloads.{spelled_payload}
-use Rattle.store_state.specs.State.{State, empty_state, after_payload, Follows}
+use Rattle.store_state.specs.State.{State, empty_state, after_payload, MayFollow}
 use Rattle.store_core.specs.State.{LeadsTo, IsUnfit}
 use Rattle.store_core.specs.declared.refusal.StoreRefusal.{StoreRefusal}
 use Rattle.store_core.specs.declared.refusal.StoreRefusal.TheVariants.{Foreign, Damaged, Full, Failed, Memory}
 
 -- a body was taken, or left since it is unfit
 abbrev pub TakesBody : State → State → List ℕ → Bool → Type 0
-TakesBody old new body true = (payload : Payload) × (body ≡ spelled_payload payload) × Follows old payload × (new ≡ after_payload old payload)
+TakesBody old new body true = (payload : Payload) × (body ≡ spelled_payload payload) × MayFollow old payload × (new ≡ after_payload old payload)
 TakesBody old new body false = IsUnfit old body
 
 -- the first unfit body, and the place of its gate in the log

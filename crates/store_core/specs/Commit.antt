@@ -6,18 +6,13 @@ use Rattle.disk_model.specs.Faults.{Rose}
 use Rattle.disk_model.specs.Moments.{LeavesOnly}
 use Rattle.commit_gate.specs.AtRest.{log_end}
 use Rattle.commit_records.specs.declared.payload.Payload.{Payload}
-use Rattle.commit_records.specs.Payloads.{spelled_payload, IsWritable}
-use Rattle.store_state.specs.State.{State, after_payload, Fits, IsFull, WithinVersions}
+use Rattle.commit_records.specs.Payloads.{spelled_payload}
+use Rattle.store_state.specs.State.{State, after_payload, IsAtLimit, WithinVersions}
 use Rattle.store_core.specs.State.{HasState, HasStateOrNext}
 use Rattle.store_core.specs.Store.{store_state, store_log, store_broken}
 use Rattle.store_core.specs.declared.store.Store.{Store}
 use Rattle.store_core.specs.declared.commit.CommitEnd.{CommitEnd}
 use Rattle.store_core.specs.declared.commit.CommitEnd.TheVariants.{Failed, Full, VersionFull, EpochFull, Memory}
-
--- a payload that may be committed in this state, the limit of versions left aside
-pub record IsNext (state : State) (payload : Payload) : Type 0 where
-  pub form : IsWritable payload
-  pub fits : Fits state payload
 
 -- where the file would end behind the payload's record and the closed gate
 abbrev pub commit_end : Store → Payload → ℕ
@@ -35,7 +30,7 @@ CommitAnswers store payload room before now (Ok done) = HasPlace store payload r
 CommitAnswers store payload room before now (Err (Failed count)) = (store_broken store ≡ Some count) ⊎ (HasPlace store payload room × Rose before now × (count ≡ now))
 CommitAnswers store payload room before now (Err (Full end free)) =
     (store_broken store ≡ None) × WithinVersions (store_state store) payload × (room < end) × (end ≡ commit_end store payload) × (free ≡ room)
-CommitAnswers store payload room before now (Err (VersionFull name)) = (store_broken store ≡ None) × IsFull (store_state store) payload name
+CommitAnswers store payload room before now (Err (VersionFull name)) = (store_broken store ≡ None) × IsAtLimit (store_state store) payload name
 CommitAnswers store payload room before now (Err (EpochFull epoch)) = ⊥
 CommitAnswers store payload room before now (Err Memory) = store_broken store ≡ None
 

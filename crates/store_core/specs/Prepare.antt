@@ -3,14 +3,14 @@ use Rattle.std.specs.Prelude.{◌≡◌, ℕ, List, Result, Ok, Err}
 use Rattle.commit_records.specs.declared.payload.Payload.{Payload}
 use Rattle.commit_records.specs.Payloads.{spelled_payload}
 use Rattle.store_state.specs.declared.undo.Undo.{Undo}
-use Rattle.store_state.specs.State.{State, after_payload, Follows, IsFull, WithinVersions}
+use Rattle.store_state.specs.State.{State, after_payload, MayFollow, IsAtLimit, WithinVersions}
 use Rattle.store_state.specs.Undo.{undone}
 use Rattle.store_core.specs.declared.commit.CommitEnd.{CommitEnd}
 use Rattle.store_core.specs.declared.commit.CommitEnd.TheVariants.{Failed, Full, VersionFull, EpochFull, Memory}
 
 -- the payload is taken, its record is at hand, and it can be taken back
 pub record IsPrepared (old new : State) (payload : Payload) (framed : List ℕ) (undo : Undo) : Type 0 where
-  pub follows : Follows old payload
+  pub follows : MayFollow old payload
   pub taken : new ≡ after_payload old payload
   pub back : undone new undo ≡ old
   pub record_is : framed ≡ spelled_payload payload
@@ -20,6 +20,6 @@ abbrev pub VersionAnswers : {T : Type 0} → State → Payload → Result T Comm
 VersionAnswers state payload (Ok done) = WithinVersions state payload
 VersionAnswers state payload (Err (Failed count)) = ⊥
 VersionAnswers state payload (Err (Full end room)) = ⊥
-VersionAnswers state payload (Err (VersionFull name)) = IsFull state payload name
+VersionAnswers state payload (Err (VersionFull name)) = IsAtLimit state payload name
 VersionAnswers state payload (Err (EpochFull epoch)) = ⊥
 VersionAnswers state payload (Err Memory) = Unit {0}

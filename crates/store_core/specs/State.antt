@@ -4,12 +4,12 @@ use Rattle.commit_gate.specs.Log.{log_bytes, HasBodies, IsDead}
 use Rattle.commit_gate.specs.Damage.{IsDamagedAt}
 use Rattle.commit_records.specs.declared.payload.Payload.{Payload}
 use Rattle.commit_records.specs.Payloads.{spelled_payload}
-use Rattle.store_state.specs.State.{State, empty_state, after_payload, Follows}
+use Rattle.store_state.specs.State.{State, empty_state, after_payload, MayFollow}
 
 -- from one state these bodies lead to another: each is the spelling of a payload that follows the state before it
 abbrev pub LeadsTo : State → List (List ℕ) → State → Type 0
 LeadsTo from [] to = to ≡ from
-LeadsTo from (body ∷ bodies) to = (payload : Payload) × (body ≡ spelled_payload payload) × Follows from payload × LeadsTo (after_payload from payload) bodies to
+LeadsTo from (body ∷ bodies) to = (payload : Payload) × (body ≡ spelled_payload payload) × MayFollow from payload × LeadsTo (after_payload from payload) bodies to
 
 -- a live log whose bodies lead to this state
 pub record IsLogOf (state : State) (bytes : List ℕ) : Type 0 where
@@ -32,7 +32,7 @@ IsForeign len bytes = IsDead bytes × (18 < length bytes) × (len ≡ length byt
 
 -- a body is the spelling of no payload that follows
 abbrev pub IsUnfit : State → List ℕ → Type 0
-IsUnfit state body = (payload : Payload) → body ≡ spelled_payload payload → Follows state payload → ⊥
+IsUnfit state body = (payload : Payload) → body ≡ spelled_payload payload → MayFollow state payload → ⊥
 
 -- a log with a record, whose gate is at this place, that is no payload or one that doesn't follow those before it
 pub record IsUnfitAt (at : ℕ) (bytes : List ℕ) : Type 0 where

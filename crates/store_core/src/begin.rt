@@ -1,5 +1,5 @@
 // A log is made where there is none.
-ghost use Rattle.std.specs.Prelude.{◌≡◌, [], length, IfOk};
+ghost use Rattle.std.specs.Prelude.{◌≡◌, ◌≢◌, ◌<◌, [], length, IfOk, OnErr};
 ghost use Rattle.disk_model.specs.declared.disk.Side.TheVariants.{Left, Right};
 ghost use Rattle.disk_model.specs.Disk.{Alone, IsHonest, IsOnDisk, file};
 ghost use Rattle.disk_model.specs.Faults.{HasCauseOf};
@@ -24,6 +24,10 @@ pub(crate) fn begin<D: Disk>(disk: &mut D, len: u64) -> Result<Log, StoreRefusal
     requires on_disk { D.tells → IsHonest (D.state disk.old) → IsOnDisk Left (D.state disk.old) }
     ensures epoch { IfOk result (λ log. log_epoch log ≡ 1) }
     ensures answers { BeginAnswers len (D.room disk.old) result }
+    // A file that is longer than a new log, or has no room for one, is left alone.
+    ensures long { 18 < len → disk.new ≡ disk.old }
+    ensures short { D.room disk.old < 18 → disk.new ≡ disk.old }
+    ensures refused { result ≢ Err StoreRefusal.Failed → OnErr result (disk.new ≡ disk.old) }
     ensures at_rest { D.tells → IsHonest (D.state disk.old) → IfOk result (λ log. (log_side log ≡ Left) × IsAtRest log [] (D.state disk.new)) }
     ensures loads { D.tells → IsHonest (D.state disk.old) → Loads (D.state disk.old) (D.state disk.new) }
     ensures by_moment { D.tells → D.tells_moments → IsHonest (D.state disk.old) → LeavesOnly (λ _. Alone Left KeepsState) (D.state disk.old) (D.state disk.new) }

@@ -4,9 +4,9 @@ ghost use Rattle.disk_model.specs.declared.disk.Side.TheVariants.{Right};
 ghost use Rattle.disk_model.specs.Disk.{IsHonest};
 ghost use Rattle.commit_gate.specs.AtRest.{log_end, LeavesFile};
 ghost use Rattle.commit_records.specs.Payloads.{spelled_payload, HasSpelling, IsWritable};
-ghost use Rattle.store_state.specs.State.{after_payload, Fits};
-ghost use Rattle.store_core.specs.Commit.{IsNext};
+ghost use Rattle.store_state.specs.State.{after_payload, Fits, IsNext};
 ghost use Rattle.store_core.specs.Prepare.{VersionAnswers, IsPrepared};
+ghost use Rattle.store_core.specs.Spared.{LogGoesOn};
 ghost use Rattle.store_core.specs.declared.commit.CommitEnd.TheVariants.{Failed, Memory};
 
 use crate::store::Store;
@@ -114,6 +114,8 @@ impl Store {
         ensures by_gate { D.tells → D.tells_moments → IsHonest (D.state disk.old) → store_broken self.old ≡ None → CommitsByGate (store_state self.old) payload result (D.state disk.old) (D.state disk.new) }
         ensures ours { D.tells → IsHonest (D.state disk.old) → IsOurs (D.state disk.old) → IsOurs (D.state disk.new) }
 
+        // All that the log has stays in front, its number too.
+        ensures goes_on { D.tells → IsHonest (D.state disk.old) → store_broken self.old ≡ None → LogGoesOn D.tells_moments (log_end (store_log self.old)) (D.state disk.old) (D.state disk.new) }
         // The next record will stand behind this one.
         ensures grows { D.tells → IsHonest (D.state disk.old) → OnOk result (log_end (store_log self.new) ≡ log_end (store_log self.old) + 9 + length (spelled_payload payload)) }
 

@@ -11,7 +11,10 @@ mod refusal;
 mod store;
 
 pub use commit::CommitEnd;
-pub use laws::{a_file_has_one_state, a_state_comes_of_payloads};
+pub use laws::{
+    a_file_has_one_state, a_log_that_goes_on_keeps_its_epoch, a_refused_file_is_spared,
+    a_state_comes_of_payloads,
+};
 pub use refusal::StoreRefusal;
 pub use store::Store;
 

@@ -1,14 +1,16 @@
 // A store is loaded.
-ghost use Rattle.std.specs.Prelude.{◌≡◌, ◌≢◌, ◌≤◌, ◌^◌, ℕ, None, length, IfOk};
+ghost use Rattle.std.specs.Prelude.{◌≡◌, ◌≢◌, ◌<◌, ◌≤◌, ◌^◌, ℕ, None, length, IfOk, OnErr};
 ghost use Rattle.disk_model.specs.declared.disk.Side.TheVariants.{Left, Right};
 ghost use Rattle.disk_model.specs.Disk.{TwoFiles, Alone, IsHonest, file};
 ghost use Rattle.disk_model.specs.Faults.{HasCauseOf};
 ghost use Rattle.disk_model.specs.Moments.{LeavesOnly};
 ghost use Rattle.commit_gate.specs.AtRest.{log_end, log_epoch, LeavesFile};
+ghost use Rattle.commit_gate.specs.Log.{IsLive};
 ghost use Rattle.store_core.specs.Begin.{KeepsSynced, Loads};
 ghost use Rattle.store_core.specs.Reach.{EndsAt, IsReachable};
 ghost use Rattle.store_core.specs.State.{HasState, IsBegun, KeepsState};
 ghost use Rattle.store_core.specs.Ours.{IsOurs};
+ghost use Rattle.store_core.specs.Spared.{IsSpared, MayBegin};
 
 use crate::begin::begin;
 use crate::bodies::contents_of;
@@ -25,7 +27,8 @@ impl Store {
 
     /// Loads the store of the left file. Where there is no log yet it makes one, which is empty.
     ///
-    /// It begins with a sync, so the state that it answers is on the disk. The right file is not touched.
+    /// It begins with a sync, so the state that it answers is on the disk. A file that it refuses, or that
+    /// has a live log, stays as it is, byte for byte. The right file is not touched.
     pub fn load<D: Disk>(alloc: Global, disk: &mut D) -> Result<Store, StoreRefusal>
         // Each answer has its cause, and each cause its answer.
         ensures answers { D.tells → LoadAnswers (D.room disk.old) (file Left (D.state disk.old).now) result }
@@ -44,6 +47,13 @@ impl Store {
 
         ensures at_rest { D.tells → IsHonest (D.state disk.old) → IfOk result (λ store. IsAsLeft store (D.state disk.new)) }
         ensures on_disk { D.tells → IsHonest (D.state disk.old) → IfOk result (λ store. (files : TwoFiles) → (D.state disk.new).may_leave files → HasState (file Left files) (store_state store)) }
+
+        // Only where a log is made does it write. So a file that it refuses is spared, whatever its answer.
+        ensures spared { D.tells → (MayBegin (D.room disk.old) (file Left (D.state disk.old).now) → ⊥) → IsSpared D.tells_moments (D.state disk.old) (D.state disk.new) }
+        // And so is one that it refuses, by its answer.
+        ensures refused { D.tells → result ≢ Err StoreRefusal.Failed → OnErr result (IsSpared D.tells_moments (D.state disk.old) (D.state disk.new)) }
+        // A live log keeps its number.
+        ensures same_epoch { D.tells → (epoch : ℕ) → epoch < 2 ^ 64 → IsLive epoch (file Left (D.state disk.old).now) → IfOk result (λ store. log_epoch (store_log store) ≡ epoch) }
 
         // Whatever a crash leaves, now or at a moment of the call, has the state of what one might have left before.
         ensures loads { D.tells → IsHonest (D.state disk.old) → Loads (D.state disk.old) (D.state disk.new) }

@@ -19,7 +19,7 @@ pub struct Store {
 
 impl Store {
     ghost use Rattle.store_state.specs.Dataset.{counts_of, cursor_of, dataset_of, definitions_of, versions_of};
-    ghost use Rattle.store_state.specs.State.{Fits, WithinVersions};
+    ghost use Rattle.store_state.specs.State.{IsNext, WithinVersions};
     ghost use Rattle.store_core.specs.Store.{store_state, store_broken};
 
     /// The disk's count of faults at which a commit failed, if one did. From then on the store answers
@@ -30,10 +30,11 @@ impl Store {
         self.broken
     }
 
-    /// Whether a payload that has a spelling follows what the store holds: it names what is there, is of
-    /// the defined shape, goes on where the last one ended, and passes no limit.
+    /// Whether a payload follows what the store holds: it may be written, names what is there, is of the
+    /// defined shape, goes on where the last one ended, and passes no limit. One that does may be
+    /// committed.
     pub fn follows(&self, payload: &Payload) -> bool
-        ensures { IsTrue result ↔ (Fits (store_state self.now) payload.now × WithinVersions (store_state self.now) payload.now) }
+        ensures { IsTrue result ↔ (IsNext (store_state self.now) payload.now × WithinVersions (store_state self.now) payload.now) }
     {
         self.contents.follows(payload)
     }

@@ -1,6 +1,6 @@
 // A store over a disk in memory: what is committed is loaded again, and a crash leaves one of two states.
 ghost use Rattle.std.specs.Prelude.{IfOk};
-ghost use Rattle.store_core.specs.Commit.{IsNext};
+ghost use Rattle.store_state.specs.State.{IsNext};
 ghost use Rattle.store_core.specs.Store.{store_state};
 
 use crate::{CommitEnd, Store, StoreRefusal};

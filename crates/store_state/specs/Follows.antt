@@ -18,7 +18,7 @@ use Rattle.commit_records.specs.declared.definition.StoredOrigin.TheVariants.{Fo
 use Rattle.commit_records.specs.declared.payload.Payload.{Payload}
 use Rattle.commit_records.specs.declared.payload.Payload.TheVariants as payload
 use Rattle.commit_records.specs.declared.take.Take.{Take}
-use Rattle.commit_records.specs.Payloads.{HasSpelling}
+use Rattle.commit_records.specs.Payloads.{HasSpelling, IsWritable}
 use Rattle.store_state.specs.Dataset.{Dataset, State, version_of, definitions_of, is_defined, dataset_of, flow_of, cursor_of}
 
 -- ---- definitions
@@ -158,15 +158,20 @@ WithinVersions state (payload.Reset names) = ⊤
 WithinVersions state (payload.Base base) = ⊤
 
 -- the name of a dataset at the limit to which the payload would add a version
-abbrev pub IsFull : State → Payload → List ℕ → Type 0
-IsFull state (payload.Define fresh list) name = ⊥
-IsFull state (payload.Take batch) name = IsFullTable state batch.table name
-IsFull state (payload.Refresh refresh) name = ⊥
-IsFull state (payload.Reset names) name = ⊥
-IsFull state (payload.Base base) name = ⊥
+abbrev pub IsAtLimit : State → Payload → List ℕ → Type 0
+IsAtLimit state (payload.Define fresh list) name = ⊥
+IsAtLimit state (payload.Take batch) name = IsFullTable state batch.table name
+IsAtLimit state (payload.Refresh refresh) name = ⊥
+IsAtLimit state (payload.Reset names) name = ⊥
+IsAtLimit state (payload.Base base) name = ⊥
 
--- a payload follows a state
-pub record Follows (state : State) (payload : Payload) : Type 0 where
+-- a payload that may be committed in this state, the limit of versions left aside
+pub record IsNext (state : State) (payload : Payload) : Type 0 where
+  pub form : IsWritable payload
+  pub fits : Fits state payload
+
+-- all that makes a payload follow a state
+pub record MayFollow (state : State) (payload : Payload) : Type 0 where
   pub spelled : HasSpelling payload
   pub fits : Fits state payload
   pub versions : WithinVersions state payload

@@ -3,16 +3,17 @@ ghost use Rattle.std.specs.Prelude.{◌≡◌, ◌↔◌, IsTrue, IsNone, IfSome
 
 use crate::contents::Contents;
 use crate::fits_define::{all_append, are_distinct, begins_with};
-use commit_records::{Definition, Payload};
+use commit_records::{Definition, Payload, is_writable};
 use value_core::Name;
 
 /// The version at which a dataset takes no further one.
 const VERSION_LIMIT: u64 = 1 << 62;
 
 impl Contents {
-    ghost use Rattle.store_state.specs.Follows.{Fits, FitsDefine, IsFull, WithinVersions, IsFullTable, HasVersions};
+    ghost use Rattle.store_state.specs.Follows.{Fits, FitsDefine, IsAtLimit, IsNext, WithinVersions, IsFullTable, HasVersions};
 
-    /// Whether a payload may be the next one, but for its spelling, which `commit_records` judges.
+    /// Whether a payload may be the next one: it may be written, which in memory is to have a spelling,
+    /// and follows what is there.
     ///
     /// Definitions follow where all are of append tables with distinct names, and the ones that are there come first,
     /// unchanged and in order, unless all datasets begin anew. A batch follows where its append table is there, its flow is
@@ -21,15 +22,22 @@ impl Contents {
     /// expectation, which with the kept one stays at or below 2^63 - 1. The table stands below version 2^62.
     /// No other payload follows.
     pub fn follows(&self, payload: &Payload) -> bool
-        ensures { IsTrue result ↔ (Fits self.now payload.now × WithinVersions self.now payload.now) }
+        ensures { IsTrue result ↔ (IsNext self.now payload.now × WithinVersions self.now payload.now) }
     {
-        self.fits(payload) && self.full_version(payload).is_none()
+        self.is_next(payload) && self.full_version(payload).is_none()
+    }
+
+    /// The same, the limit of versions left aside.
+    fn is_next(&self, payload: &Payload) -> bool
+        ensures { IsTrue result ↔ IsNext self.now payload.now }
+    {
+        is_writable(payload) && self.fits(payload)
     }
 
     /// The dataset to which the payload adds a version, where it stands at the last one, 2^62.
     pub fn full_version(&self, payload: &Payload) -> Option<&Name>
         ensures none { IsNone result ↔ WithinVersions self.now payload.now }
-        ensures name { IfSome result (λ name. IsFull self.now payload.now name.now) }
+        ensures name { IfSome result (λ name. IsAtLimit self.now payload.now name.now) }
     {
         match payload {
             Payload::Define { .. } => None,

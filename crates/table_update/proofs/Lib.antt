@@ -3,11 +3,13 @@ pub mod CommitLemmas
 pub mod ContentLemmas
 pub mod CrashLemmas
 pub mod EndLemmas
+pub mod FitLemmas
 pub mod FlowLemmas
 pub mod NewsLemmas
 pub mod ReachLemmas
 pub mod RowLemmas
 pub mod RunLemmas
+pub mod SparedLemmas
 pub mod StandFresh
 pub mod StandFronts
 pub mod StandListing

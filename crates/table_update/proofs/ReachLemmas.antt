@@ -21,7 +21,7 @@ use Rattle.commit_records.specs.declared.take.Take.{Take}
 use Rattle.commit_records.specs.Forms.{IsProgress}
 use Rattle.store_state.specs.Dataset.{Dataset, State, empty_state, after_payload, begun, begun_cursor, cursor_in, cursor_of, dataset_of, defined, first_cursor, is_flow, is_named, moved, no_tally, taken, updated, version_of}
 use Rattle.store_state.specs.Dataset as dataset
-use Rattle.store_state.specs.Follows.{FilesMove, FitsTake, FlowMoves, Follows, MovesOn}
+use Rattle.store_state.specs.Follows.{FilesMove, FitsTake, FlowMoves, MayFollow, MovesOn}
 use Rattle.store_state.proofs.FirstLemmas.{by_cases}
 use Rattle.store_core.specs.Reach.{IsReachable}
 use Rattle.store_core.specs.State.{LeadsTo}
@@ -118,7 +118,7 @@ wholes-taken all batch (first ∷ state) fits form are =
     (λ t. let here : FitsTake all batch first = rw t at fits in rw t (whole-taken all batch first here form are.0, are.1))
     (λ f. let behind : IsSomeAnd (find (is_named batch.table) state) (FitsTake all batch) = rw f at fits in rw f (are.0, wholes-taken all batch state behind form are.1))
 
-wholes-after : (state : State) (next : Payload) → Follows state next → AreWhole state → AreWhole (after_payload state next)
+wholes-after : (state : State) (next : Payload) → MayFollow state next → AreWhole state → AreWhole (after_payload state next)
 wholes-after state (payload.Define fresh list) follows are = wholes-defined fresh list state are
 wholes-after state (payload.Take batch) follows are = wholes-taken state batch state follows.fits follows.spelled.1.0 are
 wholes-after state (payload.Refresh refresh) follows are = are

@@ -14,7 +14,7 @@ use Rattle.store_core.specs.declared.store.Store.{Store}
 use Rattle.table_update.specs.declared.end.UpdateEnd.{UpdateEnd}
 use Rattle.table_update.specs.declared.end.UpdateEnd.TheVariants as update
 use Rattle.table_update.specs.declared.table.AppendTable.{AppendTable}
-use Rattle.table_update.specs.Commit.{CommitEnds, FlowRan, HasRun, Stores}
+use Rattle.table_update.specs.Commit.{CommitEnds, FlowRan, UpdateRan, Stores}
 use Rattle.table_update.specs.Flow.{behind, FlowEnds}
 use Rattle.table_update.specs.Table.{define, IsDefinedBy}
 use Rattle.table_update.specs.Update.{Flows, IsSuccess, JudgeEnds, MayRun, NoTableEnds}
@@ -44,7 +44,7 @@ is_defined table state some (inr is) = is
 -- ---- there is no table
 
 pub ran_nothing : (timed : Type 0) (files : List LandingFile) (room : ℕ) (end : UpdateEnd) (store : Store) (disk : DiskState) → NoTableEnds (store_state store) end → Stores timed (store_state store) [] [] disk disk → IsAsLeft store disk
-    → HasRun timed None files room (log_end (store_log store)) (store_state store) end store disk disk
+    → UpdateRan timed None files room (log_end (store_log store)) (store_state store) end store disk disk
 ran_nothing timed files room end store disk ends stores left = record {
   acked = [];
   tried = [];
@@ -61,7 +61,7 @@ judged table state (update.Completed read version) ends success = ends
 judged table state end ends success = success
 
 module _ (timed : Type 0) (table : AppendTable) (files : List LandingFile) (room at : ℕ) (state : State) where
-  pub run_refused : (end : UpdateEnd) (store : Store) (disk : DiskState) → JudgeEnds table state end → Stores timed state [] [] disk disk → HasRun timed (Some table) files room at state end store disk disk
+  pub run_refused : (end : UpdateEnd) (store : Store) (disk : DiskState) → JudgeEnds table state end → Stores timed state [] [] disk disk → UpdateRan timed (Some table) files room at state end store disk disk
   run_refused end store disk ends stores = record {
     acked = [];
     tried = [];
@@ -72,7 +72,7 @@ module _ (timed : Type 0) (table : AppendTable) (files : List LandingFile) (room
 
   -- ---- the table is there
 
-  pub run_there : (end : UpdateEnd) (store : Store) (old new : DiskState) → IsDefinedBy table state → FlowRan timed table files room at state end store old new → HasRun timed (Some table) files room at state end store old new
+  pub run_there : (end : UpdateEnd) (store : Store) (old new : DiskState) → IsDefinedBy table state → FlowRan timed table files room at state end store old new → UpdateRan timed (Some table) files room at state end store old new
   run_there end store old new is ran = record {
     acked = ran.acked;
     tried = ran.tried;
@@ -102,7 +102,7 @@ module _ (timed : Type 0) (table : AppendTable) (files : List LandingFile) (room
       (subst (λ (p : Payload). Flows table files room (behind at p) (after_payload state p) (p ∷ []) (payload ∷ acked) (payload ∷ tried) end) is more)
 
   run_joined : (end : UpdateEnd) (store : Store) (old mid new : DiskState) → CommitEnds state room at payload (Ok tt) → Stores timed state (payload ∷ []) (payload ∷ []) old mid
-      → FlowRan timed table files room (behind at payload) (after_payload state payload) end store mid new → HasRun timed (Some table) files room at state end store old new
+      → FlowRan timed table files room (behind at payload) (after_payload state payload) end store mid new → UpdateRan timed (Some table) files room at state end store old new
   run_joined end store old mid new ends stores ran = record {
     acked = payload ∷ ran.acked;
     tried = payload ∷ ran.tried;
@@ -113,7 +113,7 @@ module _ (timed : Type 0) (table : AppendTable) (files : List LandingFile) (room
 
   pub run_defined : (end : UpdateEnd) (store : Store) (old mid new : DiskState) (room_now at_now : ℕ) (state_now : State) → room_now ≡ room → at_now ≡ behind at payload → state_now ≡ after_payload state payload
       → CommitEnds state room at payload (Ok tt) → Stores timed state (payload ∷ []) (payload ∷ []) old mid
-      → FlowRan timed table files room_now at_now state_now end store mid new → HasRun timed (Some table) files room at state end store old new
+      → FlowRan timed table files room_now at_now state_now end store mid new → UpdateRan timed (Some table) files room at state end store old new
   run_defined end store old mid new room_now at_now state_now same_room same_at same_state ends stores ran =
       run_joined end store old mid new ends stores
       (subst (λ (r : ℕ). FlowRan timed table files r (behind at payload) (after_payload state payload) end store mid new) same_room

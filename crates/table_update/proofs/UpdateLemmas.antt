@@ -21,7 +21,7 @@ use Rattle.store_core.proofs.StateLemmas.{one_state}
 use Rattle.table_update.specs.declared.end.UpdateEnd.{UpdateEnd}
 use Rattle.table_update.specs.declared.end.UpdateEnd.TheVariants as update
 use Rattle.table_update.specs.declared.table.AppendTable.{AppendTable}
-use Rattle.table_update.specs.Commit.{HasRun}
+use Rattle.table_update.specs.Commit.{UpdateRan}
 use Rattle.table_update.specs.Crash.{Leaves, Updated}
 use Rattle.table_update.specs.Update.{Found, LoadEnds, end_after, end_of_load}
 use Rattle.table_update.proofs.CrashLemmas.{has_them, leaves_failed, leaves_loaded, leaves_refused}
@@ -73,7 +73,7 @@ module _ (timed : Type 0) (plan : Option AppendTable) (files : List LandingFile)
   one other has = one_state old.now.left other (store_state first) (omega (arith, small)) has answers.0
 
   updated_ran : (end : UpdateEnd) (store : Store) (mid new : DiskState) → Loads old mid → (timed → LeavesOnly (KeepsSynced old.now.left) old mid)
-      → HasRun timed plan files room (log_end (store_log first)) (store_state first) end store mid new → IsHonest new → Updated timed plan (found_on old room files) end old new
+      → UpdateRan timed plan files room (log_end (store_log first)) (store_state first) end store mid new → IsHonest new → Updated timed plan (found_on old room files) end old new
   updated_ran end store mid new loads synced ran honest = record {
     loaded = true;
     acked = ran.acked;
@@ -96,6 +96,15 @@ module _ (timed : Type 0) (plan : Option AppendTable) (files : List LandingFile)
   }
 
   pub updated_loaded : (end : UpdateEnd) (store : Store) (mid new : DiskState) (room_now : ℕ) → room_now ≡ room → Loads old mid → (timed → LeavesOnly (KeepsSynced old.now.left) old mid)
-      → HasRun timed plan files room_now (log_end (store_log first)) (store_state first) end store mid new → IsHonest new → Updated timed plan (found_on old room files) end old new
+      → UpdateRan timed plan files room_now (log_end (store_log first)) (store_state first) end store mid new → IsHonest new → Updated timed plan (found_on old room files) end old new
   updated_loaded end store mid new room_now same loads synced ran honest =
-      updated_ran end store mid new loads synced (subst (λ (r : ℕ). HasRun timed plan files r (log_end (store_log first)) (store_state first) end store mid new) same ran) honest
+      updated_ran end store mid new loads synced (subst (λ (r : ℕ). UpdateRan timed plan files r (log_end (store_log first)) (store_state first) end store mid new) same ran) honest
+
+-- ---- a load stops no flow
+
+pub load_never_stops : (refusal : StoreRefusal) (name : List ℕ) (cursor size : ℕ) → end_of_load refusal ≡ update.Shrunk name cursor size → ⊥
+load_never_stops (Foreign side len) name cursor size is = cc
+load_never_stops (Damaged side at) name cursor size is = cc
+load_never_stops (Full end free) name cursor size is = cc
+load_never_stops Failed name cursor size is = cc
+load_never_stops Memory name cursor size is = cc

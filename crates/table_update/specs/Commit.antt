@@ -37,7 +37,7 @@ abbrev pub CommitEnds : State → ℕ → ℕ → Payload → Result (Unit {0}) 
 CommitEnds state room at payload (Ok done) = WithinVersions state payload × HasRoom room at payload
 CommitEnds state room at payload (Err CommitFailed) = WithinVersions state payload × HasRoom room at payload
 CommitEnds state room at payload (Err (Full end limit)) = WithinVersions state payload × IsFull room at payload end limit
-CommitEnds state room at payload (Err (VersionFull name)) = states.IsFull state payload name
+CommitEnds state room at payload (Err (VersionFull name)) = states.IsAtLimit state payload name
 CommitEnds state room at payload (Err Memory) = Unit {0}
 CommitEnds state room at payload (Err end) = ⊥
 
@@ -80,7 +80,7 @@ pub record FlowRan (timed : Type 0) (table : AppendTable) (files : List LandingF
   pub left : IsSuccess end → IsLeft store (state_from state tried) (end_after at tried) new
 
 -- an update of this table, or of none, has run from this state
-pub record HasRun (timed : Type 0) (plan : Option AppendTable) (files : List LandingFile) (room at : ℕ) (state : State) (end : UpdateEnd) (store : Store) (old new : DiskState) : Type 0 where
+pub record UpdateRan (timed : Type 0) (plan : Option AppendTable) (files : List LandingFile) (room at : ℕ) (state : State) (end : UpdateEnd) (store : Store) (old new : DiskState) : Type 0 where
   pub acked : List Payload
   pub tried : List Payload
   pub ends : LoadedEnds plan files room state at acked tried end

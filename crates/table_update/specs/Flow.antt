@@ -87,14 +87,14 @@ Stops table files room at dataset places (VersionFull name) = HasNews table file
 Stops table files room at dataset places end = FindsNone table files places end
 
 -- the end tells how many lines were taken, and the version that the table has with them
-abbrev pub Counts : AppendTable → List LandingFile → Dataset → List FilePlace → ℕ → ℕ → Type 0
-Counts table files dataset places read version = (read ≡ length (lines table files places)) × (version ≡ version_of dataset + 1)
+abbrev pub CountsLines : AppendTable → List LandingFile → Dataset → List FilePlace → ℕ → ℕ → Type 0
+CountsLines table files dataset places read version = (read ≡ length (lines table files places)) × (version ≡ version_of dataset + 1)
 
 -- How the flow ends, from the state in which its table and places are these and `before` was acknowledged: which payloads
 -- were acknowledged then, and which were tried.
 abbrev pub FlowEnds : AppendTable → List LandingFile → ℕ → ℕ → Dataset → List FilePlace → List Payload → List Payload → List Payload → UpdateEnd → Type 0
 FlowEnds table files room at dataset places before acked tried (Completed read version) =
-    MayTake table files room at dataset places × Counts table files dataset places read version
+    MayTake table files room at dataset places × CountsLines table files dataset places read version
     × (acked ≡ before ++ batch table files places ∷ []) × (tried ≡ before ++ batch table files places ∷ [])
 FlowEnds table files room at dataset places before acked tried CommitFailed =
     MayTake table files room at dataset places × (acked ≡ before) × (tried ≡ before ++ batch table files places ∷ [])

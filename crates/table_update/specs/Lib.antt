@@ -1,6 +1,7 @@
 pub mod Commit
 pub mod Crash
 pub mod Ends
+pub mod Fit
 pub mod Flow
 pub mod News
 pub mod Refresh

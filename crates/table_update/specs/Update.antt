@@ -41,6 +41,12 @@ end_of_load (store.Full end room) = Full end room
 end_of_load store.Failed = LoadFailed
 end_of_load store.Memory = Memory
 
+-- the store's file is refused: it is no store's, or it is damaged
+abbrev pub IsStoreRefused : UpdateEnd → Type 0
+IsStoreRefused (Foreign len) = Unit {0}
+IsStoreRefused (Damaged at) = Unit {0}
+IsStoreRefused end = ⊥
+
 -- the store is loaded: it has this state, and its next record's gate is at this place
 pub record Loaded (found : Found) (state : State) (at : ℕ) : Type 0 where
   pub is : HasState found.bytes state

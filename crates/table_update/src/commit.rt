@@ -4,10 +4,10 @@ ghost use Rattle.disk_model.specs.declared.disk.Side.TheVariants.{Right};
 ghost use Rattle.disk_model.specs.Disk.{IsHonest};
 ghost use Rattle.disk_model.specs.Faults.{Rose};
 ghost use Rattle.commit_gate.specs.AtRest.{log_end, LeavesFile};
-ghost use Rattle.store_state.specs.State.{after_payload};
-ghost use Rattle.store_core.specs.Commit.{IsNext};
+ghost use Rattle.store_state.specs.State.{after_payload, IsNext};
 ghost use Rattle.store_core.specs.Ours.{IsOurs};
 ghost use Rattle.store_core.specs.Reach.{IsReachable};
+ghost use Rattle.store_core.specs.Spared.{LogGoesOn};
 ghost use Rattle.store_core.specs.Store.{store_state, store_log, store_broken, IsAsLeft};
 ghost use Rattle.table_update.specs.Commit as spec;
 ghost use Rattle.table_update.specs.Commit.{CommitEnds, IsCommitEnd, Stores, acked_by, tried_by};
@@ -53,6 +53,7 @@ pub(crate) fn commit<D: Disk>(
     ensures stores { D.tells → IsHonest (D.state disk.old) → Stores D.tells_moments (store_state store.old) (acked_by payload result) (tried_by payload result) (D.state disk.old) (D.state disk.new) }
     ensures honest { D.tells → IsHonest (D.state disk.old) → IsHonest (D.state disk.new) }
     ensures ours { D.tells → IsHonest (D.state disk.old) → IsOurs (D.state disk.old) → IsOurs (D.state disk.new) }
+    ensures goes_on { D.tells → IsHonest (D.state disk.old) → LogGoesOn D.tells_moments (log_end (store_log store.old)) (D.state disk.old) (D.state disk.new) }
     ensures kept { D.tells → IsHonest (D.state disk.old) → LeavesFile Right (D.state disk.old) (D.state disk.new) }
 
     ensures fault { result ≡ Err CommitFailed → Rose (D.faults disk.old) (D.faults disk.new) }

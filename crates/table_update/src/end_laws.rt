@@ -1,11 +1,17 @@
 // Laws of how an update ends where nothing outside stops it.
-ghost use Rattle.std.specs.Prelude.{◌≡◌, ◌≤◌, ◌^◌, ℕ, Bool, List, length, Option};
+ghost use Rattle.std.specs.Prelude.{◌≡◌, ◌≤◌, ◌^◌, ℕ, Bool, List, length, Option, Some};
 ghost use Rattle.commit_records.specs.declared.payload.Payload.{Payload};
+ghost use Rattle.landing_core.specs.declared.landing.LandingFile.{LandingFile};
+ghost use Rattle.store_state.specs.State.{State};
 ghost use Rattle.store_core.specs.Reach.{EndsAt, IsLogEnd};
+ghost use Rattle.store_core.specs.State.{HasState};
 ghost use Rattle.table_update.specs.Crash.{HasThem};
 ghost use Rattle.table_update.specs.Ends.{Alike, IsOwn, NothingRefused};
-ghost use Rattle.table_update.specs.Update.{Found, Updates, IsSuccess, end_after};
+ghost use Rattle.table_update.specs.Fit.{IsOtherOfItsText};
+ghost use Rattle.table_update.specs.Stands.{HasStanding};
+ghost use Rattle.table_update.specs.Update.{Found, Updates, IsSuccess, MayRun, end_after};
 ghost use Rattle.table_update.specs.declared.end.UpdateEnd.{UpdateEnd};
+ghost use Rattle.table_update.specs.declared.end.UpdateEnd.TheVariants.{Unfit};
 ghost use Rattle.table_update.specs.declared.table.AppendTable.{AppendTable};
 
 use commit_gate::a_log_has_one_list_of_bodies;
@@ -51,3 +57,15 @@ pub fn an_update_succeeds_where_nothing_is_refused()
 {
     a_file_has_one_state();
 }
+
+/// A law: an update is unfit only where what the store has was stored for another table, of the same name
+/// and text, by another definition. So it never is where a table's text says all of its definition, nor on
+/// a store that stands for the table itself.
+pub fn an_update_is_unfit_only_for_another_definition()
+    ensures stored { (table other : AppendTable) (found : Found) (loaded : Bool) (acked tried : List Payload) (name : List ℕ) (state : State)
+        → length found.bytes ≤ 2 ^ 40 → Updates (Some table) found loaded acked tried (Unfit name) → HasState found.bytes state → MayRun other state
+        → IsOtherOfItsText table other }
+    ensures standing { (table other : AppendTable) (found : Found) (loaded : Bool) (acked tried : List Payload) (name : List ℕ) (ever : List LandingFile)
+        → length found.bytes ≤ 2 ^ 40 → Updates (Some table) found loaded acked tried (Unfit name) → HasStanding other ever found.bytes
+        → IsOtherOfItsText table other }
+{}

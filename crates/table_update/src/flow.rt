@@ -11,6 +11,7 @@ ghost use Rattle.landing_core.specs.declared.landing.LandingFile.{LandingFile};
 ghost use Rattle.store_state.specs.Follows.{all_fit, none_falls};
 ghost use Rattle.store_state.specs.State.{Dataset, version_of};
 ghost use Rattle.store_core.specs.Ours.{IsOurs};
+ghost use Rattle.store_core.specs.Spared.{LogGoesOn};
 ghost use Rattle.store_core.specs.Store.{store_state, store_log, store_broken, IsAsLeft};
 ghost use Rattle.table_update.specs.Commit.{FlowRan, IsOfRun, IsOfTake};
 ghost use Rattle.table_update.specs.News.{IsNews};
@@ -56,6 +57,7 @@ fn take<D: Disk>(
         → FlowRan D.tells_moments table.now files (D.room disk.old) (log_end (store_log store.old)) (store_state store.old) result store.new (D.state disk.old) (D.state disk.new) }
     ensures honest { D.tells → IsHonest (D.state disk.old) → IsHonest (D.state disk.new) }
     ensures ours { D.tells → IsHonest (D.state disk.old) → IsOurs (D.state disk.old) → IsOurs (D.state disk.new) }
+    ensures goes_on { D.tells → IsHonest (D.state disk.old) → LogGoesOn D.tells_moments (log_end (store_log store.old)) (D.state disk.old) (D.state disk.new) }
     ensures kept { D.tells → IsHonest (D.state disk.old) → LeavesFile Right (D.state disk.old) (D.state disk.new) }
     ensures own { IsOfTake result }
     ensures fault { result ≡ UpdateEnd.CommitFailed → Rose (D.faults disk.old) (D.faults disk.new) }
@@ -92,6 +94,7 @@ pub(crate) fn flow<D: Disk, L: Landing>(
     ensures ran { D.tells → L.tells → IsHonest (D.state disk.old) → FlowRan D.tells_moments table.now (L.present landing.old) (D.room disk.old) (log_end (store_log store.old)) (store_state store.old) result store.new (D.state disk.old) (D.state disk.new) }
     ensures honest { D.tells → IsHonest (D.state disk.old) → IsHonest (D.state disk.new) }
     ensures ours { D.tells → IsHonest (D.state disk.old) → IsOurs (D.state disk.old) → IsOurs (D.state disk.new) }
+    ensures goes_on { D.tells → IsHonest (D.state disk.old) → LogGoesOn D.tells_moments (log_end (store_log store.old)) (D.state disk.old) (D.state disk.new) }
     ensures kept { D.tells → IsHonest (D.state disk.old) → LeavesFile Right (D.state disk.old) (D.state disk.new) }
     ensures present { L.tells → L.present landing.new ≡ L.present landing.old }
     ensures ever { L.tells → L.ever landing.new ≡ L.ever landing.old }

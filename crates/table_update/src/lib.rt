@@ -17,7 +17,8 @@ mod table;
 
 pub use end::UpdateEnd;
 pub use end_laws::{
-    an_update_has_one_end, an_update_succeeds_where_nothing_is_refused, settled_files_are_alike,
+    an_update_has_one_end, an_update_is_unfit_only_for_another_definition,
+    an_update_succeeds_where_nothing_is_refused, settled_files_are_alike,
 };
 pub use one_update::update;
 pub use standing_laws::{

@@ -6,8 +6,9 @@ ghost use Rattle.disk_model.specs.Faults.{Rose};
 ghost use Rattle.commit_gate.specs.AtRest.{log_end, LeavesFile};
 ghost use Rattle.store_core.specs.Ours.{IsOurs};
 ghost use Rattle.store_core.specs.Reach.{IsReachable};
+ghost use Rattle.store_core.specs.Spared.{LogGoesOn};
 ghost use Rattle.store_core.specs.Store.{store_state, store_log, store_broken, IsAsLeft};
-ghost use Rattle.table_update.specs.Commit.{HasRun, IsOfRun};
+ghost use Rattle.table_update.specs.Commit.{UpdateRan, IsOfRun};
 ghost use Rattle.table_update.specs.Table.{is_sound};
 
 use crate::commit::commit;
@@ -34,9 +35,10 @@ pub(crate) fn run<D: Disk, L: Landing>(
     requires honest { D.tells → IsHonest (D.state disk.old) }
     requires sound { IsTrue (is_sound table.now) }
 
-    ensures ran { D.tells → L.tells → IsHonest (D.state disk.old) → HasRun D.tells_moments (Some table.now) (L.present landing.old) (D.room disk.old) (log_end (store_log store.old)) (store_state store.old) result store.new (D.state disk.old) (D.state disk.new) }
+    ensures ran { D.tells → L.tells → IsHonest (D.state disk.old) → UpdateRan D.tells_moments (Some table.now) (L.present landing.old) (D.room disk.old) (log_end (store_log store.old)) (store_state store.old) result store.new (D.state disk.old) (D.state disk.new) }
     ensures honest { D.tells → IsHonest (D.state disk.old) → IsHonest (D.state disk.new) }
     ensures ours { D.tells → IsHonest (D.state disk.old) → IsOurs (D.state disk.old) → IsOurs (D.state disk.new) }
+    ensures goes_on { D.tells → IsHonest (D.state disk.old) → LogGoesOn D.tells_moments (log_end (store_log store.old)) (D.state disk.old) (D.state disk.new) }
     ensures kept { D.tells → IsHonest (D.state disk.old) → LeavesFile Right (D.state disk.old) (D.state disk.new) }
     ensures present { L.tells → L.present landing.new ≡ L.present landing.old }
     ensures ever { L.tells → L.ever landing.new ≡ L.ever landing.old }

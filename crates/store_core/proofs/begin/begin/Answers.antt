@@ -1,11 +1,24 @@
-use Rattle.std.proofs.Common.{◌≤◌, None, arith}
+use Rattle.std.proofs.Common.{◌≤◌, None, Err, ap, ◌∙◌, arith}
 use Rattle.std.proofs.lemmas.Result.{err_from_is_err_and}
 use Rattle.disk_model.specs.declared.disk.Side.TheVariants.{Left}
 use Rattle.disk_model.specs.Disk.{file}
 use Rattle.commit_gate.proofs.RestLemmas.{leaves_on, shut_leaves, fill_leaves}
 use Rattle.store_core.specs.State.{IsBegun}
 use Rattle.store_core.proofs.BeginLemmas.{begun_on_disk, begun_after_shut, loads_shut, loads_fill, loads_on, moments_shut, moments_fill, moments_on, fill_refusal}
+use Rattle.store_core.proofs.SparedLemmas.{fill_failed}
 use Rattle.store_core.proofs.begin.begin.Goals as goal
+
+-- ---- what is left alone
+
+pub returns-in_err-log-clause-refused : goal.returns-in_err-log-clause-refused
+returns-in_err-log-clause-refused g c =
+    let p = err_from_is_err_and c.from_residual-in_err-log.result c.from_residual-in_err-log.ensures.1 in
+    let room = g.D.Disk.room c.shut.new.disk in
+    let fits : 18 ≤ room = omega (arith, c.shut.ensures.room) in
+    let failed = fill_failed room c.in_err-log.field-0.0 c.fill.result c.in_err-log.was fits c.fill.ensures.full c.fill.ensures.full_by in
+    λ other. absurd (other (p.1 ∙ ap Err (p.2 ∙ failed)))
+
+-- ---- the calls
 
 pub returns-in_err-shut-clause-loads : goal.returns-in_err-shut-clause-loads
 returns-in_err-shut-clause-loads g c = λ told honest.

@@ -1,6 +1,8 @@
+use Rattle.std.proofs.Common.{◌≤◌, arith}
 use Rattle.commit_gate.specs.AtRest.{log_end}
 use Rattle.store_core.specs.Store.{store_state, store_log}
 use Rattle.store_core.proofs.LoadLemmas.{left_state}
+use Rattle.store_core.proofs.SparedLemmas.{end_within, goes_on_on, still_goes_on}
 use Rattle.table_update.proofs.CrashLemmas.{stores_still}
 use Rattle.table_update.proofs.ReachLemmas.{reachable_holds}
 use Rattle.table_update.proofs.RunLemmas.{is_defined, is_empty, none_counted, some_counted, run_defined, run_refused, run_there}
@@ -48,3 +50,14 @@ returns-in-Ok-commit-clause-ran g c = λ told landed honest.
 pub returns-in-Ok-commit-clause-ours : goal.returns-in-Ok-commit-clause-ours
 returns-in-Ok-commit-clause-ours g c = λ told honest ours.
     c.flow-in-Ok-commit.ensures.ours told (c.in-Ok-commit.ensures.honest told honest) (c.in-Ok-commit.ensures.ours told honest ours)
+
+pub returns-in-Err-clause-goes_on : goal.returns-in-Err-clause-goes_on
+returns-in-Err-clause-goes_on g c = λ told honest.
+    let disk = g.D.Disk.state c.args.disk.now in
+    let store = c.args.store.now in
+    still_goes_on g.D.Disk.tells_moments (log_end (store_log store)) disk (end_within store disk (c.requires.at_rest told))
+
+pub returns-in-Ok-commit-clause-goes_on : goal.returns-in-Ok-commit-clause-goes_on
+returns-in-Ok-commit-clause-goes_on g c = λ told honest.
+    goes_on_on g.D.Disk.tells_moments (log_end (store_log c.args.store.now)) (log_end (store_log c.commit.new.store)) (g.D.Disk.state c.args.disk.now) (g.D.Disk.state c.commit.new.disk) (g.D.Disk.state c.flow-in-Ok-commit.new.disk)
+    (omega (arith, c.in-Ok-commit.ensures.grows told honest)) (c.in-Ok-commit.ensures.goes_on told honest) (c.flow-in-Ok-commit.ensures.goes_on told (c.in-Ok-commit.ensures.honest told honest))

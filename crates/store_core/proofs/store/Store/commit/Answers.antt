@@ -2,6 +2,7 @@ use Rattle.std.proofs.Common.{Ok, Err, refl}
 use Rattle.store_core.specs.declared.commit.CommitEnd.TheVariants.{Failed}
 use Rattle.store_core.proofs.CommitLemmas.{none_of, commits, by_gate, acknowledged, as_left, ours}
 use Rattle.store_core.proofs.ReachLemmas.{next_reached, grown}
+use Rattle.store_core.proofs.SparedLemmas.{append_goes_on, end_within, still_goes_on}
 use Rattle.store_core.proofs.store.Store.commit.Goals as goal
 
 pub returns-in-Ok-clause-at_rest : goal.returns-in-Ok-clause-at_rest
@@ -83,3 +84,17 @@ returns-clause-ours g c = λ told honest was.
     let new = g.D.Disk.state c.append.new.disk in
     let none = none_of c.args.self.now.broken c.in_default.not-Some in
     ours c.args.self.now.contents c.args.payload (Err (Failed c.faults-count.result)) old new (returns-clause-commits g c told honest none)
+
+-- ---- the log goes on
+
+pub returns-in-Ok-clause-goes_on : goal.returns-in-Ok-clause-goes_on
+returns-in-Ok-clause-goes_on g c = λ told honest none.
+    let left = c.requires.at_rest told none in
+    append_goes_on c.args.self.now.log left.bodies _ (g.D.Disk.state c.args.disk.now) left.side left.at_rest g.D.Disk.tells_moments c.append.new.self c.append.result (g.D.Disk.state c.append.new.disk) honest
+    (c.append.ensures.appends told honest left.bodies left.at_rest) (λ timed. c.append.ensures.by_gate told timed honest left.bodies left.at_rest)
+
+pub returns-clause-goes_on : goal.returns-clause-goes_on
+returns-clause-goes_on g c = λ told honest none.
+    let left = c.requires.at_rest told none in
+    append_goes_on c.args.self.now.log left.bodies _ (g.D.Disk.state c.args.disk.now) left.side left.at_rest g.D.Disk.tells_moments c.append.new.self c.append.result (g.D.Disk.state c.append.new.disk) honest
+    (c.append.ensures.appends told honest left.bodies left.at_rest) (λ timed. c.append.ensures.by_gate told timed honest left.bodies left.at_rest)

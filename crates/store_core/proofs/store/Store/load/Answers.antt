@@ -1,17 +1,18 @@
-use Rattle.std.proofs.Common.{inl, inr, ◌^◌, ◌≤◌, [], length, None, Ok, Err, sym, subst, ◌∙◌, arith}
+use Rattle.std.proofs.Common.{inl, inr, ⊎_elim, ◌^◌, ◌≤◌, [], length, None, Ok, Err, sym, ap, subst, ◌∙◌, arith}
 use Rattle.std.proofs.lemmas.Result.{err_from_is_err_and}
 use Rattle.disk_model.specs.declared.disk.Side.TheVariants.{Left}
 use Rattle.disk_model.specs.Disk.{file}
-use Rattle.commit_gate.specs.Found.{IsFoundIn, EndsIfLive}
+use Rattle.commit_gate.specs.Found.{IsFoundIn, IsOfIfLive, EndsIfLive}
 use Rattle.commit_gate.specs.AtRest.{log_epoch}
 use Rattle.commit_gate.specs.Log.{IsDead}
 use Rattle.commit_gate.proofs.LoadLemmas.{log_length}
-use Rattle.commit_gate.proofs.UniqueLemmas.{bodies_live}
+use Rattle.commit_gate.proofs.UniqueLemmas.{bodies_live, one_epoch}
 use Rattle.store_core.specs.Begin.{BeginAnswers}
 use Rattle.store_core.specs.declared.store.Store.{Store}
 use Rattle.store_core.proofs.BeginLemmas.{loads_synced, loads_on, moments_read, moments_on, moments_synced, moments_synced_on}
 use Rattle.store_core.proofs.LoadLemmas.{left_state, log_stands, ours_after, exact, log_exact, bodies_refused, begin_refused, loaded, made}
 use Rattle.store_core.proofs.ReachLemmas.{new_log_end}
+use Rattle.store_core.proofs.SparedLemmas.{left_alone, spared}
 use Rattle.store_core.proofs.store.Store.load.Goals as goal
 
 -- ---- the log was refused
@@ -205,3 +206,33 @@ returns-in_err-log-in-Shut-clause-small g c = λ told other. c.load.ensures.smal
 
 pub returns-in_ok-log-in-Shut-clause-small : goal.returns-in_ok-log-in-Shut-clause-small
 returns-in_ok-log-in-Shut-clause-small g c = λ told other. c.load.ensures.small told (λ same. cc c.in_ok-log.was)
+
+-- ---- what is spared
+
+pub returns-in_err-log-in-Shut-clause-spared : goal.returns-in_err-log-in-Shut-clause-spared
+returns-in_err-log-in-Shut-clause-spared g c = λ told never.
+    let bytes = file Left (g.D.Disk.state c.args.disk.now).now in
+    let found = subst (IsFoundIn bytes) c.in-Shut.is (c.in_ok-log.ensures.found told) in
+    let still = ⊎_elim (λ longer. c.begin.ensures.long longer) (λ less. c.begin.ensures.short (omega (arith, less, c.load.ensures.room))) (left_alone (g.D.Disk.room c.args.disk.now) c.in-Shut.len bytes found.0 found.1 never) in
+    spared g.D.Disk.tells_moments (g.D.Disk.state c.args.disk.now) (g.D.Disk.state c.load.new.disk) (g.D.Disk.state c.begin.new.disk) (c.load.ensures.untouched told) (c.load.ensures.time told) (ap g.D.Disk.state still)
+
+pub returns-in_ok-log-in-Shut-clause-spared : goal.returns-in_ok-log-in-Shut-clause-spared
+returns-in_ok-log-in-Shut-clause-spared g c = λ told never.
+    let bytes = file Left (g.D.Disk.state c.args.disk.now).now in
+    let found = subst (IsFoundIn bytes) c.in-Shut.is (c.in_ok-log.ensures.found told) in
+    let answers = c.in_ok-log-in-Shut.ensures.answers in
+    absurd (never ((found.0, omega (arith, found.1, answers.0)), omega (arith, answers.1, c.load.ensures.room)))
+
+-- ---- a live log keeps its number
+
+pub returns-in_ok-contents-in-Live-clause-same_epoch : goal.returns-in_ok-contents-in-Live-clause-same_epoch
+returns-in_ok-contents-in-Live-clause-same_epoch g c = λ told epoch small live.
+    let bytes = file Left (g.D.Disk.state c.args.disk.now).now in
+    let has = subst (IsFoundIn bytes) c.in-Live.is (c.in_ok-log.ensures.found told) in
+    let of = subst (IsOfIfLive Left) c.in-Live.is c.in_ok-log.ensures.of in
+    one_epoch (log_epoch c.in-Live.log) epoch bytes of.1 small (bodies_live (log_epoch c.in-Live.log) c.in-Live.bodies bytes has) live
+
+pub returns-in_ok-log-in-Shut-clause-same_epoch : goal.returns-in_ok-log-in-Shut-clause-same_epoch
+returns-in_ok-log-in-Shut-clause-same_epoch g c = λ told epoch small live.
+    let found = subst (IsFoundIn (file Left (g.D.Disk.state c.args.disk.now).now)) c.in-Shut.is (c.in_ok-log.ensures.found told) in
+    absurd (found.0 epoch live)
