@@ -1,0 +1,3 @@
+pub mod FormSorts
+pub mod SortJoins
+pub mod TypedTrees

@@ -1,5 +1,9 @@
-ghost use Rattle.std.specs.Prelude.{◌≡◌, map};
+ghost use Rattle.std.specs.Prelude.{◌≡◌, map, true, Err, IfOk};
 ghost use Rattle.std.specs.Option.{option_copied, option_or};
+ghost use Rattle.row_expr.specs.declared.sort.Sort.TheVariants.{Ill};
+ghost use Rattle.row_expr.specs.Columns.{reads_within};
+ghost use Rattle.row_expr.specs.Kinds.{is_formed, sort_of};
+ghost use Rattle.expr_typing.specs.Forms.{gives};
 ghost use Rattle.expr_typing.specs.Typing.{Answers, Gives, typing};
 ghost use Rattle.expr_typing.specs.Typing as spec;
 
@@ -23,12 +27,8 @@ pub enum TypeEnd {
     Memory,
 }
 
-/// The typed expression of an expression over columns (Databricks SQL reference, data types and
-/// operators, under ANSI rules). Names are those of columns but for the case of ASCII letters. A
-/// literal is an INT where it fits, else a BIGINT; an INT beside a BIGINT is widened. UnknownName
-/// tells the first name from the left that no column has, wherever it stands; TypeMismatch comes
-/// where all names are known and kinds don't meet, or an aggregate stands.
-pub fn typed(alloc: Global, tree: &SqlExpr, columns: &Schema) -> Result<Expr, TypeEnd>
+/// The typed expression, or the first unknown name, or that kinds don't meet.
+fn answered(alloc: Global, tree: &SqlExpr, columns: &Schema) -> Result<Expr, TypeEnd>
     ensures { Answers (typing columns.now tree.now) result }
 {
     if let Some(name) = first_unknown(tree, columns.as_slice()) {
@@ -42,6 +42,24 @@ pub fn typed(alloc: Global, tree: &SqlExpr, columns: &Schema) -> Result<Expr, Ty
         Ok(None) => Err(TypeEnd::TypeMismatch),
         Err(AllocError) => Err(TypeEnd::Memory),
     }
+}
+
+/// The typed expression of an expression over columns (Databricks SQL reference, data types and
+/// operators, under ANSI rules). Names are those of columns but for the case of ASCII letters. A
+/// literal is an INT where it fits, else a BIGINT; an INT beside a BIGINT is widened. UnknownName
+/// tells the first name from the left that no column has, wherever it stands; TypeMismatch comes
+/// where all names are known and kinds don't meet, or an aggregate stands. What is typed may be of
+/// any kind, as NULL is: whoever wants a kind asks for it.
+pub fn typed(alloc: Global, tree: &SqlExpr, columns: &Schema) -> Result<Expr, TypeEnd>
+    ensures typed { Answers (typing columns.now tree.now) result }
+    // It has the kind that its form gives.
+    ensures kind { IfOk result (λ made. sort_of made ≡ gives columns.now tree.now) }
+    ensures formed { IfOk result (λ made. is_formed (sort_of made) ≡ true) }
+    // It reads columns that are there, each of its kind.
+    ensures reads { IfOk result (λ made. reads_within (map (λ column. column.kind) columns.now) made ≡ true) }
+    ensures mismatch { result ≡ Err TypeEnd.TypeMismatch → gives columns.now tree.now ≡ Ill }
+{
+    answered(alloc, tree, columns)
 }
 
 /// The left name, or else the right one.

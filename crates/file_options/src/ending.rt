@@ -1,6 +1,4 @@
 use std::alloc::AllocError;
-use std::error::Error;
-use std::fmt;
 use value_core::Text;
 
 /// Why a path and options say nothing.
@@ -11,17 +9,6 @@ pub enum OptionEnd {
     /// Want of memory, which no rule gives.
     Memory,
 }
-
-impl fmt::Display for OptionEnd {
-    fn fmt<W: fmt::Write>(&self, f: &mut fmt::Formatter<W>) -> fmt::Result {
-        match self {
-            OptionEnd::Bad { word } => write!(f, "bad option {}", word.as_str()),
-            OptionEnd::Memory => f.write_str("out of memory"),
-        }
-    }
-}
-
-impl Error for OptionEnd {}
 
 impl From<AllocError> for OptionEnd {
     ghost use Rattle.std.specs.Prelude.{◌≡◌};

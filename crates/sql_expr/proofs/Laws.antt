@@ -1,17 +1,17 @@
 -- The grammar has one tree for the tokens, and the reader's answer is what the grammar says.
 use Rattle.std.proofs.Common.{◌≡◌, ◌≢◌, ℕ, zero, suc, ◌+◌, ◌-◌, ◌≤◌, ◌<◌, Bool, true, false, cond, List, [], ◌∷◌, ◌++◌, length, take, drop, length-take, take-take, take-append-drop, Result, Ok, Err, refl, sym, ap, ◌∙◌, subst, append_assoc, append-nil, arith, length-append, le_refl, le_trans, ◌⊎◌, inl, inr}
-use Rattle.std.specs.Prelude.{nat_le, IfOk}
+use Rattle.std.specs.Prelude.{IfOk}
 use Rattle.std.proofs.lemmas.Bool.{le-leb, leb-true, leb-false, lt-leb}
 use Rattle.std.proofs.Math.Seq.{take-append_seam, take-append-add}
 use Rattle.sql_tree.specs.declared.expr.SqlExpr.{SqlExpr}
 use Rattle.sql_expr.specs.declared.error.Refusal.{Refusal}
-use Rattle.sql_expr.specs.declared.error.Refusal.TheVariants.{Memory, Unexpected, TooLong}
+use Rattle.sql_expr.specs.declared.error.Refusal.TheVariants.{Memory, Unexpected}
 use Rattle.sql_tree.specs.declared.lexeme.Lexeme.{Lexeme}
 use Rattle.sql_tree.specs.Lexemes.{kind}
 use Rattle.sql_expr.specs.Operators.{binds}
-use Rattle.sql_expr.specs.Grammar.{Reads, IsExpr, BeginsExpr, IsUnexpected, IsTooLong, max_tokens}
+use Rattle.sql_expr.specs.Grammar.{Reads, IsExpr, BeginsExpr, IsUnexpected}
 use Rattle.sql_phrases.specs.Parsers.{Outcome}
-use Rattle.sql_expr.specs.Descent.{expr, ended, whole, within_limit, past_limit, limited, IsAnswer}
+use Rattle.sql_expr.specs.Descent.{expr, ended, whole, IsPlaced}
 use Rattle.sql_phrases.proofs.Phrases.{Meets, Taken, Stuck, Echoes, front}
 use Rattle.sql_expr.proofs.Reading.{goes, settles, nonempty}
 use Rattle.sql_expr.proofs.Meeting.{meets_expr}
@@ -76,72 +76,19 @@ pub whole_takes : (ts : List Lexeme) (x : SqlExpr) → IsExpr ts x → whole ts 
 unfolding whole
 whole_takes ts x is = ap (ended (length ts)) (reads_whole ts x is (length ts) (le_refl (length ts)))
 
--- ---- the limit
-
--- what an answer says of the tokens
-abbrev pub IsTrueOf : List Lexeme → Result SqlExpr Refusal → Type 0
-IsTrueOf ts (Ok x) = IsExpr ts x × (length ts ≤ max_tokens)
-IsTrueOf ts (Err Memory) = Unit {0}
-IsTrueOf ts (Err (Unexpected at)) = (at ≤ max_tokens) × IsUnexpected ts at
-IsTrueOf ts (Err TooLong) = IsTooLong ts
-
-within_true : (ts : List Lexeme) → length ts ≤ max_tokens → (r : Result SqlExpr ℕ) → IsRight ts r → IsTrueOf ts (within_limit r)
-within_true ts h (Ok x) right = (right, h)
-within_true ts h (Err at) right = (omega (arith, right.within), right)
-
-take_take : (m n : ℕ) (ts : List Lexeme) → m ≤ n → take m (take n ts) ≡ take m ts
-take_take m n ts h = grind (arith, take-take)
-
-past_true : (ts : List Lexeme) → max_tokens < length ts → (r : Result SqlExpr ℕ) → IsRight (take (suc max_tokens) ts) r → IsTrueOf ts (past_limit r)
-past_true ts h (Ok x) right = record { more = h; begins = ([], x, subst (λ z. IsExpr z x) (sym (append-nil (take (suc max_tokens) ts))) right) }
-past_true ts h (Err at) right = by_test (nat_le at max_tokens) refl
-  where
-    size : length (take (suc max_tokens) ts) ≡ suc max_tokens
-    size = omega (arith, length-take (suc max_tokens) ts)
-
-    by_test : (b : Bool) → nat_le at max_tokens ≡ b → IsTrueOf ts (Err (cond b (Unexpected at) TooLong))
-    by_test true e =
-        let low = leb-true at max_tokens e in (
-          low,
-          record {
-            within = omega arith;
-            begins = subst BeginsExpr (take_take at (suc max_tokens) ts (omega arith)) right.begins;
-            stops = λ more begun. right.stops (omega (arith, size)) (subst BeginsExpr (sym (take_take (suc at) (suc max_tokens) ts (omega arith))) begun);
-            not_whole = λ x is. right.stops (omega (arith, size))
-                (subst BeginsExpr (sym (take_take (suc at) (suc max_tokens) ts (omega arith))) (drop (suc at) ts, x, subst (λ z. IsExpr z x) (sym (take-append-drop (suc at) ts)) is));
-          },
-        )
-    by_test false e =
-        let high = leb-false at max_tokens e in
-        let all : at ≡ suc max_tokens = omega (arith, right.within, size) in
-        record { more = h; begins = subst BeginsExpr (take_take (suc max_tokens) (suc max_tokens) ts (omega arith)) (subst (λ n. BeginsExpr (take n (take (suc max_tokens) ts))) all right.begins) }
-
-pub limited_true : (ts : List Lexeme) → IsTrueOf ts (limited ts)
-unfolding limited
-limited_true ts = by_test (nat_le (length ts) max_tokens) refl
-  where
-    by_test : (b : Bool) → nat_le (length ts) max_tokens ≡ b → IsTrueOf ts (cond b (within_limit (whole ts)) (past_limit (whole (take (suc max_tokens) ts))))
-    by_test true e = within_true ts (leb-true (length ts) max_tokens e) (whole ts) (whole_right ts)
-    by_test false e = past_true ts (leb-false (length ts) max_tokens e) (whole (take (suc max_tokens) ts)) (whole_right (take (suc max_tokens) ts))
-
-limited_takes : (ts : List Lexeme) (x : SqlExpr) → IsExpr ts x → length ts ≤ max_tokens → limited ts ≡ Ok x
-unfolding limited
-limited_takes ts x is h = rw (le-leb (length ts) max_tokens h, whole_takes ts x is)
-
 -- ---- the public clauses, from the answer
 
-pub answer_ok : (ts : List Lexeme) (r : Result SqlExpr Refusal) → IsAnswer Memory (limited ts) r → IfOk r (λ x. IsExpr ts x × (length ts ≤ max_tokens))
-answer_ok ts (Ok x) h = subst (IsTrueOf ts) h (limited_true ts)
+pub answer_ok : (ts : List Lexeme) (r : Result SqlExpr Refusal) → IsPlaced (whole ts) r → IfOk r (λ x. IsExpr ts x)
+answer_ok ts (Ok x) h = subst (IsRight ts) h (whole_right ts)
 answer_ok ts (Err e) h = tt
 
-pub answer_only : (ts : List Lexeme) (r : Result SqlExpr Refusal) → IsAnswer Memory (limited ts) r → (x : SqlExpr) → IsExpr ts x → length ts ≤ max_tokens → (r ≡ Ok x) ⊎ (r ≡ Err Memory)
-answer_only ts (Ok y) h x is short = inl (sym h ∙ limited_takes ts x is short)
-answer_only ts (Err Memory) h x is short = inr refl
-answer_only ts (Err (Unexpected at)) h x is short = let none = h (λ e. cc) in let some = limited_takes ts x is short in absurd (cc)
-answer_only ts (Err TooLong) h x is short = let none = h (λ e. cc) in let some = limited_takes ts x is short in absurd (cc)
+same_tree : (x y : SqlExpr) → ◌≡◌ {A = Result SqlExpr ℕ} (Ok x) (Ok y) → x ≡ y
+same_tree x y e = cc
 
-pub answer_unexpected : (ts : List Lexeme) (r : Result SqlExpr Refusal) → IsAnswer Memory (limited ts) r → (at : ℕ) → r ≡ Err (Unexpected at) → (at ≤ max_tokens) × IsUnexpected ts at
-answer_unexpected ts r h at e = subst (IsTrueOf ts) ((subst (IsAnswer Memory (limited ts)) e h) (λ same. cc)) (limited_true ts)
+pub answer_only : (ts : List Lexeme) (r : Result SqlExpr Refusal) → IsPlaced (whole ts) r → (x : SqlExpr) → IsExpr ts x → (r ≡ Ok x) ⊎ (r ≡ Err Memory)
+answer_only ts (Ok y) h x is = inl (ap Ok (same_tree y x (sym h ∙ whole_takes ts x is)))
+answer_only ts (Err Memory) h x is = inr refl
+answer_only ts (Err (Unexpected at)) h x is = let some = whole_takes ts x is in absurd (cc)
 
-pub answer_too_long : (ts : List Lexeme) (r : Result SqlExpr Refusal) → IsAnswer Memory (limited ts) r → r ≡ Err TooLong → IsTooLong ts
-answer_too_long ts r h e = subst (IsTrueOf ts) ((subst (IsAnswer Memory (limited ts)) e h) (λ same. cc)) (limited_true ts)
+pub answer_unexpected : (ts : List Lexeme) (r : Result SqlExpr Refusal) → IsPlaced (whole ts) r → (at : ℕ) → r ≡ Err (Unexpected at) → IsUnexpected ts at
+answer_unexpected ts r h at e = subst (IsRight ts) (subst (IsPlaced (whole ts)) e h) (whole_right ts)

@@ -6,9 +6,9 @@ use Rattle.sql_tree.specs.declared.expr.SqlExpr.{SqlExpr}
 use Rattle.sql_tree.specs.declared.expr.SqlExpr.TheVariants as e
 use Rattle.sql_tree.specs.declared.expr.SqlArm.{SqlArm}
 use Rattle.sql_expr.specs.declared.error.Refusal.{Refusal}
-use Rattle.sql_expr.specs.declared.error.Refusal.TheVariants.{Unexpected, TooLong}
+use Rattle.sql_expr.specs.declared.error.Refusal.TheVariants.{Unexpected}
 use Rattle.sql_expr.specs.declared.error.Refusal.TheVariants as refusals
-use Rattle.sql_expr.specs.Grammar.{max_tokens, arm}
+use Rattle.sql_expr.specs.Grammar.{arm}
 use Rattle.sql_tree.specs.declared.lexeme.LexemeKind.{LexemeKind}
 use Rattle.sql_tree.specs.declared.lexeme.LexemeKind.TheVariants as k
 use Rattle.sql_tree.specs.declared.lexeme.Lexeme.{Lexeme}
@@ -221,25 +221,8 @@ ended n (Err r) = Err (n - length r)
 unfoldable pub whole : List Lexeme → Result SqlExpr ℕ
 whole ts = ended (length ts) (expr (length ts) 1 ts)
 
-abbrev pub within_limit : Result SqlExpr ℕ → Result SqlExpr Refusal
-within_limit (Ok x) = Ok x
-within_limit (Err at) = Err (Unexpected at)
-
--- of the tokens up to one more than the limit
-abbrev pub past_limit : Result SqlExpr ℕ → Result SqlExpr Refusal
-past_limit (Ok x) = Err TooLong
-past_limit (Err at) = Err (if nat_le at max_tokens then Unexpected at else TooLong)
-
-unfoldable pub limited : List Lexeme → Result SqlExpr Refusal
-limited ts = if nat_le (length ts) max_tokens then within_limit (whole ts) else past_limit (whole (take (suc max_tokens) ts))
-
--- a call's result, unless memory fails
-abbrev pub IsAnswer : {E : Type 0} → E → Result SqlExpr E → Result SqlExpr E → Type 0
-IsAnswer memory answer (Ok x) = answer ≡ Ok x
-IsAnswer memory answer (Err e) = e ≢ memory → answer ≡ Err e
-
+-- a call answers so, unless memory fails
 abbrev pub IsPlaced : Result SqlExpr ℕ → Result SqlExpr Refusal → Type 0
 IsPlaced answer (Ok x) = answer ≡ Ok x
 IsPlaced answer (Err refusals.Memory) = Unit {0}
 IsPlaced answer (Err (Unexpected at)) = answer ≡ Err at
-IsPlaced answer (Err TooLong) = ⊥

@@ -109,18 +109,9 @@ IsExpr = Reads 1
 abbrev pub BeginsExpr : List Lexeme → Type 0
 BeginsExpr w = (more : List Lexeme) × (x : SqlExpr) × IsExpr (w ++ more) x
 
--- the most tokens of an expression
-abbrev pub max_tokens : ℕ
-max_tokens = 512
-
 -- the token at this place is the first with which no expression begins, or all tokens are a beginning and no whole
 pub record IsUnexpected (ts : List Lexeme) (at : ℕ) : Type 0 where
   pub within : at ≤ length ts
   pub begins : BeginsExpr (take at ts)
   pub stops : at < length ts → BeginsExpr (take (suc at) ts) → ⊥
   pub not_whole : (x : SqlExpr) → IsExpr ts x → ⊥
-
--- the token after the most is still a part of the expression
-pub record IsTooLong (ts : List Lexeme) : Type 0 where
-  pub more : max_tokens < length ts
-  pub begins : BeginsExpr (take (suc max_tokens) ts)

@@ -1,10 +1,10 @@
 //! Expressions from tokens.
 
-ghost use Rattle.std.specs.Prelude.{◌≡◌, ◌≤◌, ◌⊎◌, ℕ, List, length, IfOk};
+ghost use Rattle.std.specs.Prelude.{◌≡◌, ◌⊎◌, ℕ, List, IfOk};
 ghost use Rattle.sql_tree.specs.Print.{expr_print};
 ghost use Rattle.sql_tree.specs.declared.lexeme.Lexeme.{Lexeme};
 ghost use Rattle.sql_tree.specs.declared.expr.SqlExpr.{SqlExpr};
-ghost use Rattle.sql_expr.specs.Grammar.{IsExpr, IsUnexpected, IsTooLong, max_tokens};
+ghost use Rattle.sql_expr.specs.Grammar.{IsExpr, IsUnexpected};
 ghost use Rattle.sql_expr.specs.Descent as descent;
 
 use crate::error::Refusal;
@@ -12,9 +12,6 @@ use crate::grammar::expr;
 use sql_phrases::{ReadError, Reader};
 use sql_tree::{Lexeme, SqlExpr};
 use std::alloc::Global;
-
-/// The most tokens of an expression.
-pub const MAX_TOKENS: usize = 512;
 
 #[tactic(auto, unfolding(crate::specs::Descent::whole))]
 fn whole(alloc: Global, tokens: &[Lexeme]) -> Result<SqlExpr, Refusal>
@@ -31,30 +28,16 @@ fn whole(alloc: Global, tokens: &[Lexeme]) -> Result<SqlExpr, Refusal>
     }
 }
 
-#[tactic(auto, unfolding(crate::specs::Descent::limited))]
-fn limited(alloc: Global, tokens: &[Lexeme]) -> Result<SqlExpr, Refusal>
-    ensures { descent.IsAnswer Refusal.Memory (descent.limited tokens.now) result }
-{
-    if tokens.len() <= MAX_TOKENS {
-        return whole(alloc, tokens);
-    }
-    match whole(alloc, &tokens[..MAX_TOKENS + 1]) {
-        Err(Refusal::Memory) => Err(Refusal::Memory),
-        Err(Refusal::Unexpected { at }) if at <= MAX_TOKENS => Err(Refusal::Unexpected { at }),
-        _ => Err(Refusal::TooLong),
-    }
-}
-
-/// Reads all of the tokens as one expression.
+/// Reads all of the tokens as one expression, however many they are. What limits an expression of a pipeline is the
+/// reader of pipelines.
 pub fn read(alloc: Global, tokens: &[Lexeme]) -> Result<SqlExpr, Refusal>
     // What is read is an expression of the grammar.
-    ensures ok { IfOk result (λ x. IsExpr tokens.now x × (length tokens.now ≤ max_tokens)) }
+    ensures ok { IfOk result (λ x. IsExpr tokens.now x) }
     // An expression has one tree, and is read unless memory runs out.
-    ensures only { (x : SqlExpr) → IsExpr tokens.now x → length tokens.now ≤ max_tokens → (result ≡ Ok x) ⊎ (result ≡ Err Refusal.Memory) }
-    ensures unexpected { (at : ℕ) → result ≡ Err (Refusal.Unexpected at) → (at ≤ max_tokens) × IsUnexpected tokens.now at }
-    ensures too_long { result ≡ Err Refusal.TooLong → IsTooLong tokens.now }
+    ensures only { (x : SqlExpr) → IsExpr tokens.now x → (result ≡ Ok x) ⊎ (result ≡ Err Refusal.Memory) }
+    ensures unexpected { (at : ℕ) → result ≡ Err (Refusal.Unexpected at) → IsUnexpected tokens.now at }
 {
-    limited(alloc, tokens)
+    whole(alloc, tokens)
 }
 
 /// Each tree that the grammar gives is the one tree of its print, and so no two of them print alike.

@@ -6,7 +6,7 @@ pub mod error;
 mod grammar;
 mod operators;
 
-pub use entry::{MAX_TOKENS, print_is_read, read};
+pub use entry::{print_is_read, read};
 pub use grammar::expr;
 
 #[cfg(test)]

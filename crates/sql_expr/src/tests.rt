@@ -77,11 +77,7 @@ fn refuses(rt: HostRuntime) -> Result<(), Fail> {
     assert_eq!(rt; refused(alloc, &[])?, Some(Refusal::Unexpected { at: 0 }));
     assert_eq!(rt;
         refused(alloc, &[LexemeKind::LParen; 600])?,
-        Some(Refusal::TooLong)
-    );
-    assert_eq!(rt;
-        refused(alloc, &[LexemeKind::LParen; 512])?,
-        Some(Refusal::Unexpected { at: 512 })
+        Some(Refusal::Unexpected { at: 600 })
     );
     assert_eq!(rt;
         refused(

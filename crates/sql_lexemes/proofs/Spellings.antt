@@ -16,7 +16,7 @@ use Rattle.sql_tokens.specs.declared.lexical.Class.TheVariants as class
 use Rattle.sql_tokens.specs.declared.lexical.Context.{Context}
 use Rattle.sql_tokens.specs.declared.lexical.Context.TheVariants.{Open, Sign, Operand}
 use Rattle.sql_tokens.specs.declared.lexical.Piece.TheVariants.{Token}
-use Rattle.sql_tokens.specs.Lexical.{Text, piece, is_in, after, is_among, is_too_large, capped_value, cap, limit}
+use Rattle.sql_tokens.specs.Lexical.{Text, piece, is_in, after, inner_words, is_among, is_too_large, capped_value, cap, limit}
 use Rattle.sql_tree.specs.declared.lexeme.LexemeKind.{LexemeKind}
 use Rattle.sql_tree.specs.declared.lexeme.LexemeKind.TheVariants as k
 use Rattle.sql_tree.specs.declared.lexeme.Lexeme.{Lexeme}
@@ -25,7 +25,7 @@ use Rattle.sql_tree.specs.Spelling.{is_word, escaped, symbol, spelling, ends_ope
 use Rattle.sql_lexemes.specs.Lexing.{symbol_kind, unescaped, inside, lexeme}
 use Rattle.sql_lexemes.specs.Spellable.{is_spellable, is_within_limit, is_quotable}
 use Rattle.sql_lexemes.proofs.Pieces.{is_apart, IsSymbol, word_piece, number_piece, quoted_piece, string_piece, symbol_piece}
-use Rattle.sql_lexemes.proofs.Words.{inner_words, inner_word}
+use Rattle.sql_lexemes.proofs.Words.{inner_word}
 
 -- what stands before a token, by the kinds of the two lexemes there
 abbrev pub context : LexemeKind → LexemeKind → Context

@@ -1,17 +1,13 @@
 -- A word's kind and what it leaves a minus behind it to be.
-use Rattle.std.proofs.Common.{◌≡◌, Bool, true, false, not, cond, ◌&&◌, ◌||◌, List, [], ◌∷◌, map, refl, sym, ap, ◌∙◌, ◌⊎◌, inl, inr, ⊎_elim, bytes_eq}
+use Rattle.std.proofs.Common.{◌≡◌, Bool, true, false, not, cond, ◌&&◌, ◌||◌, List, [], ◌∷◌, refl, sym, ap, ◌∙◌, ◌⊎◌, inl, inr, ⊎_elim, bytes_eq}
 use Rattle.std.specs.Str.{str_eq_ignore_ascii_case, str_to_ascii_lowercase}
 use Rattle.std.proofs.lemmas.Bool.{and_parts, and_from, or_from, or_cases, not-true, not_from_false, cond-true, cond-false, cases_Bool, false_from_ne_true, both_ways}
 use Rattle.std.proofs.lemmas.Slice.Eq.{bytes_eq-Decides}
-use Rattle.sql_tokens.specs.declared.lexical.TheConstants.{INNER_WORDS}
-use Rattle.sql_tokens.specs.Lexical.{Text, is_among}
+use Rattle.sql_tokens.specs.Lexical.{Text, inner_words, is_among}
 use Rattle.sql_tree.specs.declared.lexeme.LexemeKind.{LexemeKind}
 use Rattle.sql_tree.specs.declared.lexeme.LexemeKind.TheVariants as k
 use Rattle.sql_tree.specs.Lexemes.{keyword, kind_among, reserved_kinds, word_kind}
 use Rattle.sql_tree.specs.Spelling.{ends_operand}
-
-abbrev pub inner_words : List Text
-inner_words = map (λ w. w.now) INNER_WORDS
 
 -- the word is none of these
 abbrev none_of : List LexemeKind → Text → Bool

@@ -9,13 +9,13 @@ use Rattle.sql_phrases.specs.Parsers.{next}
 use Rattle.sql_phrases.proofs.Phrases.{front, front_append}
 use Rattle.sql_phrases.proofs.Terminals.{alike}
 use Rattle.sql_expr.specs.Operators.{binds}
-use Rattle.sql_expr.specs.Grammar.{IsExpr, BeginsExpr, max_tokens}
+use Rattle.sql_expr.specs.Grammar.{IsExpr, BeginsExpr}
 use Rattle.sql_expr.proofs.Reading.{nonempty, no_star}
 use Rattle.sql_statements.specs.declared.error.ParseError.{ParseError}
 use Rattle.sql_statements.specs.declared.error.ParseError.TheVariants.{Memory, Unexpected, TooLong}
 use Rattle.sql_statements.specs.Languages.{Language, one, nothing, either, ◌>>=◌ as ◌⨾◌}
 use Rattle.sql_statements.specs.Parsers.{Outcome, Parser, and_then, ◌>>=◌, pure, some_token, of_next, token, begins, choose}
-use Rattle.sql_statements.specs.Limits.{IsShort, IsMarked, mark, AreTokens, unlimited, limited, IsFull, Cut}
+use Rattle.sql_statements.specs.Limits.{max_tokens, IsShort, IsMarked, mark, AreTokens, unlimited, limited, IsFull, Cut}
 use Rattle.sql_statements.proofs.Marks.{tokens_before, tokens_behind, only_mark, not_empty, place, same_before, front_more}
 
 -- a language over the language of the outermost expressions

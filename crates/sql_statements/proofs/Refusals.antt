@@ -7,13 +7,13 @@ use Rattle.std.proofs.Math.Seq.{take-append-add}
 use Rattle.sql_tree.specs.declared.statement.Statement.{Statement}
 use Rattle.sql_tree.specs.declared.lexeme.Lexeme.{Lexeme}
 use Rattle.sql_phrases.proofs.Phrases.{front, front_append}
-use Rattle.sql_expr.specs.Grammar.{BeginsExpr, max_tokens}
+use Rattle.sql_expr.specs.Grammar.{BeginsExpr}
 use Rattle.sql_statements.specs.declared.error.ParseError.TheVariants as errors
 use Rattle.sql_statements.specs.declared.error.Refusal.{Refusal}
 use Rattle.sql_statements.specs.declared.error.Refusal.TheVariants.{Memory, Unexpected, TooLong}
 use Rattle.sql_statements.specs.Grammar.{pipeline}
 use Rattle.sql_statements.specs.Descent.{pipeline as pipeline_reader}
-use Rattle.sql_statements.specs.Limits.{IsMarked, mark, AreTokens, limited}
+use Rattle.sql_statements.specs.Limits.{max_tokens, IsMarked, mark, AreTokens, limited}
 use Rattle.sql_statements.specs.Pipelines.{IsPipeline, IsShortPipeline, BeginsPipeline, IsTooLong, IsUnexpected, IsRefused, ended, whole, IsAnswer}
 use Rattle.sql_statements.proofs.Marks.{tokens_before}
 use Rattle.sql_statements.proofs.Good.{Begun}

@@ -14,13 +14,13 @@ use Rattle.sql_phrases.proofs.Phrases as phrases
 use Rattle.sql_expr.specs.Operators.{binds}
 use Rattle.sql_tree.specs.declared.lexeme.LexemeKind.TheVariants as k
 use Rattle.sql_phrases.proofs.Terminals.{plain}
-use Rattle.sql_expr.specs.Grammar.{Reads, number, IsExpr, BeginsExpr, max_tokens}
+use Rattle.sql_expr.specs.Grammar.{Reads, number, IsExpr, BeginsExpr}
 use Rattle.sql_expr.specs.Descent.{expr}
 use Rattle.sql_expr.proofs.Reading.{goes, settles, nonempty, no_star}
 use Rattle.sql_expr.proofs.Meeting.{meets_expr, lower}
 use Rattle.sql_statements.specs.declared.error.ParseError.TheVariants.{Unexpected, TooLong}
 use Rattle.sql_statements.specs.Parsers.{Outcome}
-use Rattle.sql_statements.specs.Limits.{IsShort, mark, AreTokens, lifted, past_limit, unlimited, limited}
+use Rattle.sql_statements.specs.Limits.{max_tokens, IsShort, mark, AreTokens, lifted, past_limit, unlimited, limited}
 use Rattle.sql_statements.proofs.Marks.{no_mark, only_mark, front_more, expr_tokens}
 use Rattle.sql_statements.proofs.Good.{Meets, Agrees, Completes, Plain, Fills, Reaches, Good}
 

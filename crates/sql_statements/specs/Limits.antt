@@ -1,14 +1,18 @@
 -- The most tokens of an outermost expression.
-use Rattle.std.specs.Prelude.{◌≡◌, ◌≢◌, suc, ◌≤◌, ◌+◌, ◌-◌, ◌⊎◌, nat_le, if◌then◌else◌, List, [], ◌∷◌, ◌++◌, length, take, drop, Ok, Err}
+use Rattle.std.specs.Prelude.{◌≡◌, ◌≢◌, ℕ, suc, ◌≤◌, ◌+◌, ◌-◌, ◌⊎◌, nat_le, if◌then◌else◌, List, [], ◌∷◌, ◌++◌, length, take, drop, Ok, Err}
 use Rattle.sql_tree.specs.declared.expr.SqlExpr.{SqlExpr}
 use Rattle.sql_tree.specs.declared.lexeme.LexemeKind.TheVariants as k
 use Rattle.sql_tree.specs.declared.lexeme.Lexeme.{Lexeme}
 use Rattle.sql_phrases.specs.Parsers.{Outcome as ExprOutcome}
-use Rattle.sql_expr.specs.Grammar.{IsExpr, BeginsExpr, max_tokens}
+use Rattle.sql_expr.specs.Grammar.{IsExpr, BeginsExpr}
 use Rattle.sql_expr.specs.Descent.{expr}
 use Rattle.sql_statements.specs.declared.error.ParseError.TheVariants.{Unexpected, TooLong}
 use Rattle.sql_statements.specs.Languages.{Language}
 use Rattle.sql_statements.specs.Parsers.{Outcome, Parser}
+
+-- the most tokens of an outermost expression
+abbrev pub max_tokens : ℕ
+max_tokens = 512
 
 -- an expression within the limit
 abbrev pub IsShort : Language SqlExpr

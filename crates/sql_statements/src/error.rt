@@ -1,6 +1,4 @@
 use std::alloc::AllocError;
-use std::error::Error;
-use std::fmt;
 
 /// Why a part of a pipeline was not read.
 #[derive(Clone, Copy, Debug, PartialEq, Eq)]
@@ -11,18 +9,6 @@ pub enum ParseError {
     /// The reader stands at a token that would go on an outermost expression past the most tokens.
     TooLong,
 }
-
-impl fmt::Display for ParseError {
-    fn fmt<W: fmt::Write>(&self, f: &mut fmt::Formatter<W>) -> fmt::Result {
-        f.write_str(match self {
-            ParseError::Memory => "out of memory",
-            ParseError::Unexpected => "unexpected token",
-            ParseError::TooLong => "expression too long",
-        })
-    }
-}
-
-impl Error for ParseError {}
 
 impl From<AllocError> for ParseError {
     ghost use Rattle.std.specs.Prelude.{◌≡◌};
@@ -44,15 +30,3 @@ pub enum Refusal {
     /// The token at this place goes on an outermost expression past the most tokens.
     TooLong { at: usize },
 }
-
-impl fmt::Display for Refusal {
-    fn fmt<W: fmt::Write>(&self, f: &mut fmt::Formatter<W>) -> fmt::Result {
-        match self {
-            Refusal::Memory => f.write_str("out of memory"),
-            Refusal::Unexpected { at } => write!(f, "unexpected token {at}"),
-            Refusal::TooLong { at } => write!(f, "expression too long at token {at}"),
-        }
-    }
-}
-
-impl Error for Refusal {}

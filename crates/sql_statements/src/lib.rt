@@ -11,7 +11,7 @@ mod statement;
 mod token;
 
 pub use entry::read_tokens;
-pub use error::{ParseError, Refusal};
+pub use error::Refusal;
 pub use laws::{answers_are_one, print_is_read};
 
 #[cfg(test)]

@@ -4,15 +4,18 @@ ghost use Rattle.std.specs.Prelude.{◌≡◌, ◌<◌, List, length};
 ghost use Rattle.sql_tree.specs.declared.expr.SqlExpr.{SqlExpr};
 ghost use Rattle.sql_tree.specs.declared.lexeme.Lexeme.{Lexeme};
 ghost use Rattle.sql_phrases.specs.Parsers.{Outcome as ExprOutcome, Gives as ExprGives};
-ghost use Rattle.sql_expr.specs.Grammar.{max_tokens};
 ghost use Rattle.sql_statements.specs.Parsers.{Gives};
 ghost use Rattle.sql_statements.specs.Limits as spec;
+ghost use Rattle.sql_statements.specs.Limits.{max_tokens};
 
 use crate::error::ParseError;
-use sql_expr::{MAX_TOKENS, expr};
+use sql_expr::expr;
 use sql_phrases::{ReadError, Reader};
 use sql_tree::SqlExpr;
 use std::alloc::Global;
+
+/// The most tokens of an outermost expression.
+pub const MAX_TOKENS: usize = 512;
 
 fn within(alloc: Global, reader: &mut Reader<'_>) -> Result<SqlExpr, ParseError>
     ensures { Gives (spec.within reader.old) result reader.new }

@@ -1,6 +1,4 @@
 use std::alloc::AllocError;
-use std::error::Error;
-use std::fmt;
 
 /// Why a pipeline's text is refused. Places are byte offsets from 0.
 #[derive(Clone, Copy, Debug, PartialEq, Eq)]
@@ -18,21 +16,6 @@ pub enum SqlRefusal {
     /// There was no memory.
     Memory,
 }
-
-impl fmt::Display for SqlRefusal {
-    fn fmt<W: fmt::Write>(&self, f: &mut fmt::Formatter<W>) -> fmt::Result {
-        match self {
-            SqlRefusal::TextTooLong => f.write_str("text too long"),
-            SqlRefusal::BadToken { at } => write!(f, "bad token at {at}"),
-            SqlRefusal::LiteralTooLarge { at } => write!(f, "literal too large at {at}"),
-            SqlRefusal::Unexpected { at } => write!(f, "unexpected at {at}"),
-            SqlRefusal::ExprTooLong { at } => write!(f, "expression too long at {at}"),
-            SqlRefusal::Memory => f.write_str("out of memory"),
-        }
-    }
-}
-
-impl Error for SqlRefusal {}
 
 impl From<AllocError> for SqlRefusal {
     ghost use Rattle.std.specs.Prelude.{◌≡◌};

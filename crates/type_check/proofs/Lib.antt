@@ -1,4 +1,5 @@
 pub mod Forms
+pub mod Limits
 pub mod Places
 pub mod Plans
 pub mod Tells

@@ -1,5 +1,5 @@
 -- An output reads a column of its kind.
-use Rattle.std.proofs.Common.{◌≡◌, ℕ, ◌+◌, Bool, true, cond, List, [], ◌∷◌, ◌++◌, map, length, Option, Some, None, refl, sym, ap, subst, ◌∙◌, length-append, arith}
+use Rattle.std.proofs.Common.{◌≡◌, ℕ, zero, suc, ◌+◌, Bool, true, cond, List, [], ◌∷◌, ◌++◌, map, length, take, Option, Some, None, refl, sym, ap, subst, ◌∙◌, length-append, arith}
 use Rattle.std.specs.Prelude.{slice_get, option_map, option_and_then, option_to_list}
 use Rattle.std.specs.List.{AllByRecursion}
 use Rattle.std.proofs.lemmas.List.{append_assoc}
@@ -19,7 +19,7 @@ use Rattle.row_expr.specs.Kinds.{arm_at, kind_in, same_kind, sort_at, sort_of}
 use Rattle.plan_core.specs.Sound.{kinds_of, kind_over, kinds_over, all_there}
 use Rattle.type_check.specs.declared.outputs.Output.{Output}
 use Rattle.type_check.specs.Form.{column, plain_name}
-use Rattle.type_check.specs.Outputs.{output, every_from, place_of, under, output_named, outputs_by, outputs_of, columns_of, expr_of, exprs_of}
+use Rattle.type_check.specs.Outputs.{output, every_from, place_of, under, output_named, outputs_by, outputs_of, outputs_seen, columns_of, expr_of, exprs_of}
 
 -- the column at its place has its kind
 abbrev Reads : List Kind → Output → Type 0
@@ -92,7 +92,12 @@ outs_read : (source : List Column) (outs : List Out) → AllByRecursion (Reads (
 outs_read source [] = tt
 outs_read source (first ∷ more) = both_read (kinds_of source) (outputs_by source first) (outputs_of source more) (out_reads source first) (outs_read source more)
 
+front_read : (kinds : List Kind) (n : ℕ) (list : List Output) → AllByRecursion (Reads kinds) list → AllByRecursion (Reads kinds) (take n list)
+front_read kinds zero list f = tt
+front_read kinds (suc n) [] f = tt
+front_read kinds (suc n) (each ∷ more) f = (f.0, front_read kinds n more f.1)
+
 -- the expressions of a table have the kinds of its columns
 pub outputs_typed : (source : List Column) (outs : List Out) →
-    kinds_over (kinds_of source) (exprs_of (outputs_of source outs)) ≡ Some (kinds_of (columns_of (outputs_of source outs)))
-outputs_typed source outs = kinds_read (kinds_of source) (outputs_of source outs) (outs_read source outs)
+    kinds_over (kinds_of source) (exprs_of (outputs_seen source outs)) ≡ Some (kinds_of (columns_of (outputs_seen source outs)))
+outputs_typed source outs = kinds_read (kinds_of source) (outputs_seen source outs) (front_read (kinds_of source) 257 (outputs_of source outs) (outs_read source outs))

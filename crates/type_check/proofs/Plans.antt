@@ -10,7 +10,7 @@ use Rattle.file_options.specs.declared.files.FilesRead.{FilesRead}
 use Rattle.file_options.specs.Rules.{By, FilesBy}
 use Rattle.type_check.specs.declared.fault.CheckFault.{CheckFault}
 use Rattle.type_check.specs.Form.{Form, form_of}
-use Rattle.type_check.specs.Outputs.{outputs_of, columns_of}
+use Rattle.type_check.specs.Outputs.{outputs_seen, columns_of}
 use Rattle.type_check.specs.Rules.{Break, Comes, Checked, Judged, JudgedBehind, IsOne, first_break, declared_checks, select_checks, column_checks, unless, over_outputs, table_by, dataset_over, flow_with, text_of, as_plan}
 use Rattle.type_check.proofs.Places.{outputs_typed}
 
@@ -38,7 +38,7 @@ checked_once once statements one other f g = comes_once once statements one othe
 
 -- ---- a sound plan
 
-flow_sound : (name text : List ℕ) (files : FilesRead) (outs : List Out) → let outputs = outputs_of files.shape.columns outs in let dataset = dataset_over name text files outputs in
+flow_sound : (name text : List ℕ) (files : FilesRead) (outs : List Out) → let outputs = outputs_seen files.shape.columns outs in let dataset = dataset_over name text files outputs in
     IsSoundFlow (dataset ∷ []) dataset (flow_with name files outputs)
 flow_sound name text files outs = record {
   source = files.shape.columns;
@@ -46,15 +46,15 @@ flow_sound name text files outs = record {
   gives = record { filter = refl; outputs = outputs_typed files.shape.columns outs };
 }
 
-table_sound : (name text : List ℕ) (files : FilesRead) (outs : List Out) → let outputs = outputs_of files.shape.columns outs in let dataset = dataset_over name text files outputs in
+table_sound : (name text : List ℕ) (files : FilesRead) (outs : List Out) → let outputs = outputs_seen files.shape.columns outs in let dataset = dataset_over name text files outputs in
     IsSoundTable (dataset ∷ []) dataset (flow_with name files outputs ∷ [])
-table_sound name text files outs = let outputs = outputs_of files.shape.columns outs in let dataset = dataset_over name text files outputs in record {
+table_sound name text files outs = let outputs = outputs_seen files.shape.columns outs in let dataset = dataset_over name text files outputs in record {
   each_flow = All-cons (IsSoundFlow (dataset ∷ []) dataset) (flow_with name files outputs) [] (flow_sound name text files outs) (All-nil (IsSoundFlow (dataset ∷ []) dataset));
   expectations = refl;
 }
 
-plan_sound : (name text : List ℕ) (files : FilesRead) (outs : List Out) → IsSoundPlan (dataset_over name text files (outputs_of files.shape.columns outs) ∷ [])
-plan_sound name text files outs = let dataset = dataset_over name text files (outputs_of files.shape.columns outs) in
+plan_sound : (name text : List ℕ) (files : FilesRead) (outs : List Out) → IsSoundPlan (dataset_over name text files (outputs_seen files.shape.columns outs) ∷ [])
+plan_sound name text files outs = let dataset = dataset_over name text files (outputs_seen files.shape.columns outs) in
     let Sound = λ (each : Dataset). IsSoundBody (dataset ∷ []) each each.body in record {
       names_differ = λ i j d before within. absurd (omega arith);
       each_dataset = All-cons Sound dataset [] (table_sound name text files outs) (All-nil Sound);
@@ -64,16 +64,16 @@ plan_sound name text files outs = let dataset = dataset_over name text files (ou
 abbrev SoundAs : Result Dataset CheckFault → Type 0
 SoundAs given = (dataset : Dataset) → given ≡ Ok dataset → IsSoundPlan (dataset ∷ [])
 
-given_sound : (text : List ℕ) (form : Form) (files : FilesRead) (broken : Option CheckFault) → SoundAs (over_outputs text form files (unless broken (outputs_of files.shape.columns form.outs)))
+given_sound : (text : List ℕ) (form : Form) (files : FilesRead) (broken : Option CheckFault) → SoundAs (over_outputs text form files (unless broken (outputs_seen files.shape.columns form.outs)))
 given_sound text form files (Some fault) dataset is = absurd (cc is)
 given_sound text form files None dataset is =
-    let same : dataset_over form.name text files (outputs_of files.shape.columns form.outs) ≡ dataset = cc is in
+    let same : dataset_over form.name text files (outputs_seen files.shape.columns form.outs) ≡ dataset = cc is in
     subst (λ each. IsSoundPlan (each ∷ [])) same (plan_sound form.name text files form.outs)
 
 by_sound : (text : List ℕ) (form : Form) (files : By FilesRead) → SoundAs (table_by text form files)
 by_sound text form (Err word) dataset is = absurd (cc is)
 by_sound text form (Ok files) dataset is =
-    given_sound text form files (first_break (select_checks form.stream form.groups form.outs files.shape.columns ++ column_checks form.declared (columns_of (outputs_of files.shape.columns form.outs)))) dataset is
+    given_sound text form files (first_break (select_checks form.stream form.groups form.outs files.shape.columns ++ column_checks form.declared (columns_of (outputs_seen files.shape.columns form.outs)))) dataset is
 
 behind_sound : (text : List ℕ) (form : Form) (fault : Option CheckFault) (table : Result Dataset CheckFault) → JudgedBehind text form fault table → SoundAs table
 behind_sound text form (Some fault) table f dataset is = absurd (cc (sym is ∙ f))

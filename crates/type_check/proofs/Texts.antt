@@ -11,7 +11,7 @@ use Rattle.file_options.specs.Rules.{By, EndsInText, FilesBy}
 use Rattle.type_check.specs.declared.fault.CheckFault.{CheckFault}
 use Rattle.type_check.specs.declared.outputs.Output.{Output}
 use Rattle.type_check.specs.Form.{Form, form_of}
-use Rattle.type_check.specs.Outputs.{outputs_of, columns_of}
+use Rattle.type_check.specs.Outputs.{outputs_seen, columns_of}
 use Rattle.type_check.specs.Rules.{Comes, Checked, Judged, JudgedBehind, first_break, declared_checks, select_checks, column_checks, unless, over_outputs, table_by, dataset_over, flow_with, text_of, as_plan}
 use Rattle.type_check.specs.Texts.{OriginKeepsText, KeepsText}
 
@@ -30,16 +30,16 @@ over_text name text files outputs keeps = let Keeps = λ (flow : AppendFlow). Or
     All-cons Keeps (flow_with name files outputs) [] keeps (All-nil Keeps)
 
 given_text : (text : List ℕ) (form : Form) (files : FilesRead) (broken : Option CheckFault) → FilesKeepText files →
-    TextAs (over_outputs text form files (unless broken (outputs_of files.shape.columns form.outs)))
+    TextAs (over_outputs text form files (unless broken (outputs_seen files.shape.columns form.outs)))
 given_text text form files (Some fault) keeps dataset is = absurd (cc is)
 given_text text form files None keeps dataset is =
-    let same : dataset_over form.name text files (outputs_of files.shape.columns form.outs) ≡ dataset = cc is in
-    subst KeepsText same (over_text form.name text files (outputs_of files.shape.columns form.outs) keeps)
+    let same : dataset_over form.name text files (outputs_seen files.shape.columns form.outs) ≡ dataset = cc is in
+    subst KeepsText same (over_text form.name text files (outputs_seen files.shape.columns form.outs) keeps)
 
 by_text : OptionsKeepText → (text : List ℕ) (form : Form) (files : By FilesRead) → FilesBy form.path form.options files → TextAs (table_by text form files)
 by_text options_keep text form (Err word) reads dataset is = absurd (cc is)
 by_text options_keep text form (Ok files) reads dataset is =
-    given_text text form files (first_break (select_checks form.stream form.groups form.outs files.shape.columns ++ column_checks form.declared (columns_of (outputs_of files.shape.columns form.outs))))
+    given_text text form files (first_break (select_checks form.stream form.groups form.outs files.shape.columns ++ column_checks form.declared (columns_of (outputs_seen files.shape.columns form.outs))))
     (options_keep form.path form.options files reads) dataset is
 
 behind_text : OptionsKeepText → (text : List ℕ) (form : Form) (fault : Option CheckFault) (table : Result Dataset CheckFault) → JudgedBehind text form fault table → TextAs table

@@ -1,5 +1,5 @@
 -- The columns that outputs give, over the columns that are read.
-use Rattle.std.specs.Prelude.{ℕ, ◌+◌, Bool, ◌&&◌, if◌then◌else◌, List, [], ◌∷◌, ◌++◌, map, flat_map, position, slice_get, Option, Some, None, unwrap_or, option_map, option_and_then, option_to_list}
+use Rattle.std.specs.Prelude.{ℕ, ◌+◌, Bool, ◌&&◌, if◌then◌else◌, List, [], ◌∷◌, ◌++◌, map, flat_map, position, slice_get, take, Option, Some, None, unwrap_or, option_map, option_and_then, option_to_list}
 use Rattle.sql_tree.specs.declared.statement.Out.{Out}
 use Rattle.sql_tree.specs.declared.statement.Out.TheVariants as out
 use Rattle.value_core.specs.declared.schema.Column.{Column}
@@ -7,7 +7,7 @@ use Rattle.value_core.specs.NameFold.{same_name}
 use Rattle.row_expr.specs.declared.expr.Expr.{Expr}
 use Rattle.row_expr.specs.declared.expr.Expr.TheVariants as expr
 use Rattle.row_expr.specs.Kinds.{same_kind}
-use Rattle.expr_typing.specs.Typing.{first_of, has_column, if_unknown}
+use Rattle.expr_typing.specs.Typing.{first_of, first_unknown as unknown_in, has_column}
 use Rattle.type_check.specs.declared.outputs.Output.{Output}
 use Rattle.type_check.specs.Form.{column, plain_name}
 
@@ -40,6 +40,14 @@ outputs_by source (out.One tree own) = option_to_list (option_and_then (output_n
 abbrev pub outputs_of : List Column → List Out → List Output
 outputs_of source outs = flat_map (outputs_by source) outs
 
+-- as many of a list as are looked at: the most that a table may have, and one more
+abbrev pub looked_at : {A : Type 0} → List A → List A
+looked_at list = take 257 list
+
+-- all of them, where they are not too many
+abbrev pub outputs_seen : List Column → List Out → List Output
+outputs_seen source outs = looked_at (outputs_of source outs)
+
 abbrev pub columns_of : List Output → List Column
 columns_of outputs = map (λ each. each.column) outputs
 
@@ -52,10 +60,10 @@ exprs_of outputs = map expr_of outputs
 
 -- ---- names
 
--- the name of an output that no column has
+-- the first name in an output that no column has
 abbrev pub unknown_by : List Column → Out → Option (List ℕ)
 unknown_by source (out.Star except) = None
-unknown_by source (out.One tree own) = option_and_then (if_unknown source) (plain_name tree)
+unknown_by source (out.One tree own) = unknown_in source tree
 
 abbrev pub first_unknown : List Column → List Out → Option (List ℕ)
 first_unknown source outs = first_of (map (unknown_by source) outs)

@@ -22,16 +22,16 @@ use Rattle.type_check.specs.declared.fault.TableEnd.{TableEnd}
 use Rattle.type_check.specs.declared.fault.TableEnd.TheVariants as end
 use Rattle.type_check.specs.declared.outputs.Output.{Output}
 use Rattle.type_check.specs.Form.{Form, form_of, is_there}
-use Rattle.type_check.specs.Outputs.{outputs_of, columns_of, exprs_of, first_unknown, first_repeat, first_difference}
+use Rattle.type_check.specs.Outputs.{outputs_seen, columns_of, exprs_of, looked_at, first_unknown, first_repeat, first_difference}
 
 -- ---- the checks one by one: nothing, or how one is broken
 
 abbrev pub Check : Type 0
 Check = Option CheckFault
 
--- no column has the name of an earlier one, but for the case of ASCII letters; the fault spells the later one
+-- no column, as far as they are looked at, has the name of an earlier one, but for the case of ASCII letters; the fault spells the later one
 abbrev pub names_differ : List Column → Check
-names_differ columns = option_map Duplicate (first_repeat columns)
+names_differ columns = option_map Duplicate (first_repeat (looked_at columns))
 
 -- there are at most 256 columns
 abbrev pub few_columns : List Column → Check
@@ -101,7 +101,7 @@ unless (Some fault) given = Err fault
 
 -- what a query gives over these columns, where no check of it is broken
 abbrev pub outputs_over : List Column → Bool → List SqlExpr → List Out → List Column → Result (List Output) CheckFault
-outputs_over declared stream groups outs source = let outputs = outputs_of source outs in
+outputs_over declared stream groups outs source = let outputs = outputs_seen source outs in
     unless (first_break (select_checks stream groups outs source ++ column_checks declared (columns_of outputs))) outputs
 
 abbrev pub over_outputs : List ℕ → Form → FilesRead → Result (List Output) CheckFault → Result Dataset CheckFault

@@ -12,11 +12,12 @@ abbrev pub OriginKeepsText : Origin → Type 0
 OriginKeepsText (origin.Files dir shape) = IsTrue shape.rescued → EndsInText shape.columns
 OriginKeepsText (origin.Table name) = Unit {0}
 
+-- a flow that appends rows or applies a change feed may read files; a view reads a dataset
 abbrev pub BodyKeepsText : Body → Type 0
 BodyKeepsText (body.Append flows) = All (λ flow. OriginKeepsText flow.origin) flows
-BodyKeepsText (body.Cdc cdc) = Unit {0}
+BodyKeepsText (body.Cdc cdc) = OriginKeepsText cdc.origin
 BodyKeepsText (body.View query) = Unit {0}
 
--- it is so of each flow that appends to a dataset
+-- it is so of each flow of a dataset
 abbrev pub KeepsText : Dataset → Type 0
 KeepsText dataset = BodyKeepsText dataset.body

@@ -46,7 +46,9 @@ fn plan_by(
 /// one streaming table without expectations, whose AS selects `*` or plain columns, without WHERE,
 /// from `read_files`. Then come, in this order: declared columns of one name or too many; the
 /// options; `read_files` without STREAM; GROUP BY; an output that no column is; outputs of one name
-/// or too many; declared columns that are not the table's.
+/// or too many; declared columns that are not the table's. Of columns or outputs that are more than
+/// 256 the first 257 alone are built and compared: a name that repeats among them is told, and else
+/// that they are too many.
 pub fn check(alloc: Global, statements: &Statements) -> Result<Plan, CheckRefusal>
     ensures plan { IfOk result (λ plan. spec.Checked statements.now (Ok plan)) }
     ensures refused { IfErr result (λ end. spec.OnRefused end (λ at fault. spec.Checked statements.now (spec.broken_at at fault))) }

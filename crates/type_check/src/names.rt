@@ -8,6 +8,21 @@ ghost use Rattle.type_check.specs.Outputs as spec;
 
 use value_core::{Column, Kind, Name};
 
+/// The most columns of a table.
+pub const MAX_COLUMNS: usize = 256;
+
+/// As many columns as are looked at: the most that a table may have, and one more. Which of them
+/// differ in name is sought among these alone, so that the work has a bound.
+pub fn looked_at(columns: &[Column]) -> &[Column]
+    ensures { result.now ≡ spec.looked_at columns.now }
+{
+    if columns.len() > MAX_COLUMNS {
+        &columns[..MAX_COLUMNS + 1]
+    } else {
+        columns
+    }
+}
+
 /// Whether a column has this name, but for the case of ASCII letters.
 pub fn has_column(columns: &[Column], name: &Name) -> bool
     ensures { result ≡ typing.has_column columns.now name.now }

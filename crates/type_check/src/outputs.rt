@@ -2,12 +2,12 @@
 
 ghost use Rattle.std.specs.Prelude.{◌≡◌, ◌++◌, IfOk, OnOk, OnErr, map, position, option_to_list};
 ghost use Rattle.std.specs.Option.{option_copied};
-ghost use Rattle.expr_typing.specs.Typing.{if_unknown};
 ghost use Rattle.value_core.specs.NameFold.{same_name};
 ghost use Rattle.type_check.specs.Outputs as spec;
 
 use crate::form::plain_name;
-use crate::names::has_column;
+use crate::names::MAX_COLUMNS;
+use expr_typing::first_unknown as unknown_in;
 use plan_core::Exprs;
 use row_expr::Expr;
 use sql_tree::{Out, SqlExpr};
@@ -106,15 +106,36 @@ fn add_one(
     }
 }
 
-/// What outputs give: all columns for `*`, else the column that is named, if there is one.
-pub fn outputs_of(alloc: Global, source: &[Column], outs: &[Out]) -> Result<Outputs, AllocError>
-    ensures { IfOk result (λ outputs. outputs ≡ spec.outputs_of source.now outs.now) }
+/// What outputs give, until they are more than a table may have: all columns for `*`, else the
+/// column that is named, if there is one.
+fn built(alloc: Global, source: &[Column], outs: &[Out]) -> Result<Outputs, AllocError>
+    ensures { IfOk result (λ outputs. spec.looked_at outputs ≡ spec.outputs_seen source.now outs.now) }
 {
     let mut outputs = ListOf::new(alloc);
     for output in outs {
+        if outputs.len() > MAX_COLUMNS {
+            return Ok(outputs);
+        }
         add_one(alloc, &mut outputs, source, output)?;
     }
     Ok(outputs)
+}
+
+fn cut(outputs: Outputs) -> Outputs
+    ensures { result ≡ spec.looked_at outputs }
+{
+    let mut items = outputs.into_vec();
+    items.truncate(MAX_COLUMNS + 1);
+    ListOf::from_vec(items)
+}
+
+/// What outputs give, as far as it is looked at. No more are built once there are more than a table
+/// may have.
+pub fn outputs_of(alloc: Global, source: &[Column], outs: &[Out]) -> Result<Outputs, AllocError>
+    ensures { IfOk result (λ outputs. outputs ≡ spec.outputs_seen source.now outs.now) }
+{
+    let outputs = built(alloc, source, outs)?;
+    Ok(cut(outputs))
 }
 
 /// The columns of a table.
@@ -139,27 +160,12 @@ pub fn exprs_of(alloc: Global, outputs: &[Output]) -> Result<Exprs, AllocError>
     Ok(exprs)
 }
 
-fn if_unknown<'a>(source: &[Column], name: &'a Name) -> Option<&'a Name>
-    ensures { option_copied result ≡ if_unknown source.now name.now }
-{
-    if has_column(source, name) {
-        None
-    } else {
-        Some(name)
-    }
-}
-
 fn unknown_by<'a>(source: &[Column], output: &'a Out) -> Option<&'a Name>
     ensures { option_copied result ≡ spec.unknown_by source.now output.now }
 {
     match output {
         Out::Star { except: _ } => None,
-        Out::One { expr, name: _ } => {
-            let Some(name) = plain_name(expr) else {
-                return None;
-            };
-            if_unknown(source, name)
-        }
+        Out::One { expr, name: _ } => unknown_in(expr, source),
     }
 }
 

@@ -7,7 +7,7 @@ ghost use Rattle.type_check.specs.Rules as spec;
 
 use crate::fault::{CheckFault, TableEnd};
 use crate::form::{declared_columns, is_plain_select};
-use crate::names::{first_difference, first_repeat};
+use crate::names::{MAX_COLUMNS, first_difference, first_repeat, looked_at};
 use crate::outputs::{Output, Outputs, columns_of, exprs_of, first_unknown, outputs_of};
 use file_options::{FilesRead, OptionEnd, files_of};
 use plan_core::{AppendFlow, AppendFlows, Body, Dataset, Origin};
@@ -16,14 +16,12 @@ use sql_tree::{Out, Select, SqlExpr, SqlItem, SqlOptions, SqlOrigin, Statement, 
 use std::alloc::{AllocError, Global};
 use value_core::{Column, ListOf, Name, Schema, Text};
 
-const MAX_COLUMNS: usize = 256;
-
 // ---- the checks
 
 fn names_differ(alloc: Global, columns: &[Column]) -> Result<Option<CheckFault>, AllocError>
     ensures { IfOk result (λ fault. fault ≡ spec.names_differ columns.now) }
 {
-    let Some(name) = first_repeat(columns) else {
+    let Some(name) = first_repeat(looked_at(columns)) else {
         return Ok(None);
     };
     let name = name.copy(alloc)?;

@@ -202,7 +202,7 @@ fn each_check_is_told_in_its_order(rt: HostRuntime) -> Result<(), Fail> {
     let int = SqlType::Int;
     let big = SqlType::Big;
     let bad: [(&str, &str); 1] = [("format", "json")];
-    let cases: [(Declared, Pairs, bool, Pairs, bool, &str, &str); 12] = [
+    let cases: [(Declared, Pairs, bool, Pairs, bool, &str, &str); 13] = [
         (
             &[("a", int), ("b", big), ("A", int), ("B", int)],
             &[("x", "")],
@@ -265,6 +265,15 @@ fn each_check_is_told_in_its_order(rt: HostRuntime) -> Result<(), Fail> {
             false,
             "duplicate",
             "b",
+        ),
+        (
+            &[],
+            &[("*", ""), ("*", "")],
+            true,
+            &JSON,
+            false,
+            "duplicate",
+            "a",
         ),
         (
             &[("a", int)],
@@ -363,6 +372,32 @@ fn columns_come(alloc: Global, count: usize, what: &str, named: &str) -> Result<
 fn a_table_has_at_most_256_columns(rt: HostRuntime) -> Result<(), Fail> {
     assert!(rt; columns_come(rt.alloc(), 257, "too many", "257")?);
     assert!(rt; columns_come(rt.alloc(), 256, "differs", "a")?);
+    Ok(())
+}
+
+/// So many outputs of different names, all of one column.
+fn many_outs(alloc: Global, count: usize) -> Result<Outs, AllocError> {
+    let mut outs = Outs::new(alloc);
+    let mut name = String::new(alloc);
+    for _ in 0..count {
+        name.push_str("c")?;
+        outs.push(out_of(alloc, "a", name.as_str())?)?;
+    }
+    Ok(outs)
+}
+
+fn outs_come(alloc: Global, count: usize, what: &str, named: &str) -> Result<bool, AllocError> {
+    let outs = many_outs(alloc, count)?;
+    let select = select_from(alloc, outs, false)?;
+    let statement = table_as(alloc, SqlItems::new(alloc), Some(select))?;
+    let statements = one(alloc, statement)?;
+    comes(alloc, &statements, 1, what, named)
+}
+
+#[test]
+fn a_query_gives_at_most_256_columns(rt: HostRuntime) -> Result<(), Fail> {
+    assert!(rt; outs_come(rt.alloc(), 257, "too many", "257")?);
+    assert!(rt; outs_come(rt.alloc(), 256, "", "")?);
     Ok(())
 }
 

@@ -1,6 +1,6 @@
 use Rattle.std.proofs.Common.{◌≡◌, take, flat_map}
 use Rattle.type_check.specs.Outputs.{outputs_by}
-use Rattle.type_check.proofs.outputs.outputs_of.Given as goal
+use Rattle.type_check.proofs.outputs.built.Given as goal
 
 -- what the outputs so far give
 abbrev pub invariant-loop-output : goal.invariant-loop-output
