@@ -2,6 +2,7 @@ pub mod CrashLemmas
 pub mod EndLemmas
 pub mod LeaveLemmas
 pub mod RunLemmas
+pub mod SpareLemmas
 pub mod TableLemmas
 pub mod TextLemmas
 pub mod UpdateLemmas
