@@ -13,7 +13,7 @@ use Rattle.pipeline_run.specs.Update.{Ended, acked_by, tried_by, loaded_by, Load
 
 -- ---- states
 
-state_from_both : (state : State) (first second : List Payload) → state_from state (first ++ second) ≡ state_from (state_from state first) second
+pub state_from_both : (state : State) (first second : List Payload) → state_from state (first ++ second) ≡ state_from (state_from state first) second
 state_from_both state [] second = refl
 state_from_both state (payload ∷ first) second = state_from_both (after_payload state payload) first second
 

@@ -1,5 +1,5 @@
 -- A run has one end.
-use Rattle.std.proofs.Common.{◌≡◌, ◌≢◌, inl, inr, ℕ, ◌≤◌, ◌^◌, List, [], ◌∷◌, ◌++◌, length, take, refl, sym, ap, subst, ◌∙◌, Option, Some, None, Result, Ok, Bool, arith}
+use Rattle.std.proofs.Common.{◌≡◌, ◌≢◌, ◌⊎◌, inl, inr, ℕ, ◌≤◌, ◌^◌, List, [], ◌∷◌, ◌++◌, length, take, refl, sym, ap, subst, ◌∙◌, Option, Some, None, Result, Ok, Bool, arith}
 use Rattle.disk_model.specs.Faults.{Rose}
 use Rattle.commit_records.specs.declared.payload.Payload.{Payload}
 use Rattle.sql_tokens.specs.declared.error.SqlRefusal.{SqlRefusal}
@@ -17,20 +17,23 @@ use Rattle.table_update.specs.Ends as tables
 use Rattle.table_update.specs.Ends.{Alike, IsOwn}
 use Rattle.table_update.specs.Stands.{IsFor}
 use Rattle.table_update.specs.Update.{Found, Updates, IsSuccess, end_after}
+use Rattle.table_update.proofs.EndLemmas.{HasOneState}
 use Rattle.pipeline_run.specs.declared.command.Command.{Command}
 use Rattle.pipeline_run.specs.declared.command.Command.TheVariants.{Validate, Update}
 use Rattle.pipeline_run.specs.declared.outcome.Outcome.{Outcome}
 use Rattle.pipeline_run.specs.declared.outcome.Outcome.TheVariants.{Usage, TextFailed, Refused, Broken, Valid, Updated}
 use Rattle.pipeline_run.specs.declared.outcome.Status.{Status}
 use Rattle.pipeline_run.specs.declared.outcome.Status.TheVariants as status
-use Rattle.pipeline_run.specs.Ends.{NothingFailed, RanWell, SameFile, SameEnd, NothingRefused, AreValidates, HaveOneUpdate}
+use Rattle.pipeline_run.specs.Ends.{NothingFailed, RanWell, SameFile, SameEnd, NothingRefused, HasShrunk, AreValidates, HaveUpdate}
 use Rattle.pipeline_run.specs.Pipeline.{text_limit, HasStatements, HasPlan, IsBroken}
 use Rattle.pipeline_run.specs.Report.{status_of, status_of_end}
 use Rattle.pipeline_run.specs.Run.{Around, found_by, Counts, NoneFalls, Standing, IsIdle, IsUpdate, Comes, Blames, BlamesOf, IsTold, Tells, Executes, Runs, Refuses, Ran}
 use Rattle.pipeline_run.specs.Table.{name_of, plan_of, AsksFor}
 use Rattle.pipeline_run.specs.Update.{Ended, EndsWith, tried_by}
+use Rattle.pipeline_run.proofs.AgainLemmas.{nothing_after}
 use Rattle.pipeline_run.proofs.CrashLemmas.{tried_by_both}
 use Rattle.pipeline_run.proofs.RunLemmas.{success}
+use Rattle.pipeline_run.proofs.ShrunkLemmas.{update_stops}
 use Rattle.pipeline_run.proofs.TableLemmas.{one_asked}
 
 -- a text has one reading or one refusal, and not both; and the checks of its statements give one answer
@@ -474,24 +477,104 @@ ok_of_validates law (Validate ∷ others) around answer updates old new plan are
 ok_of_validates law (Validate ∷ others) around answer updates old new plan are has fine ne (mid, given, own, tail, parts, executes, inr end) =
     absurd (end.0 (ok_of_validate law around own old mid plan given has (subst (NothingFailed old) end.3 fine) (λ m. ne (end.1 ∙ m)) executes))
 
-ok_of_one_update : HasOneAnswer → Succeeds → (commands : List Command) (around : Around) (answer : Status) (updates : List Ended) (old new : Standing) → HaveOneUpdate commands → NothingRefused around old.file → NothingFailed old new → answer ≢ status.Memory
+-- ---- what an update that has succeeded leaves
+
+left_by : (around : Around) (plan : Option AppendTable) (end : UpdateEnd) (updates : List Ended) (before after : List ℕ) → status_of_end end ≡ status.Ok → IsUpdate plan around end updates before after → tables.NothingRefused plan (found_by around after)
+left_by around plan end updates before after ok (ended, is, same, with_it) =
+    let well : IsSuccess ended.end = subst IsSuccess (sym same) (success end ok) in
+    nothing_after plan (found_by around before) ended.loaded ended.acked ended.tried ended.end after with_it.updates well (with_it.reads well) (with_it.goes_on well)
+
+left_by_goes_on : (around : Around) (plan : Option AppendTable) (file after : List ℕ) (updates : List Ended) (given : Status) (outcome : Outcome) → given ≡ status.Ok → given ≡ status_of outcome → GoesOn around (plan_of plan) outcome updates file after
+    → tables.NothingRefused plan (found_by around after)
+left_by_goes_on around plan file after updates given outcome ok e on =
+    let same : on.plan ≡ plan = one_asked on.plan plan (sym on.of_plan) in
+    let well : status_of_end on.end ≡ status.Ok = sym (ap status_of on.is) ∙ sym e ∙ ok in
+    subst (λ (given : Option AppendTable). tables.NothingRefused given (found_by around after)) same (left_by around on.plan on.end updates file after well on.update)
+
+left_by_update : HasOneAnswer → (around : Around) (updates : List Ended) (old mid : Standing) (given : Status) → NothingRefused around old.file → NothingFailed old mid → given ≡ status.Ok → Executes Update around given updates old mid → NothingRefused around mid.file
+left_by_update law around updates old mid given none fine ok (inr out) = absurd (is_ok given ok out.0.status)
+left_by_update law around updates old mid given none fine ok (inl (outcome, does)) =
+    let is = told outcome given old mid does.tells fine (is_ok given ok) in
+    let way = gone Update around given updates outcome old mid fine (is_ok given ok) is does.blames does.comes in
+    let same : way.way ≡ PlanText (plan_of none.plan) = one_way law around.text way.way (PlanText (plan_of none.plan)) way.is none.checks in
+    record {
+      plan = none.plan;
+      checks = none.checks;
+      takes = left_by_goes_on around none.plan old.file mid.file updates given outcome ok is.status (subst (λ (each : Way). Goes Update around each outcome updates old.file mid.file) same way.goes);
+    }
+
+-- ---- commands in order
+
+ok_of_all : HasOneAnswer → Succeeds → (commands : List Command) (around : Around) (answer : Status) (updates : List Ended) (old new : Standing) → NothingRefused around old.file → NothingFailed old new → answer ≢ status.Memory
     → Runs around commands answer updates old new → answer ≡ status.Ok
-ok_of_one_update law succeeds [] around answer updates old new have none fine ne runs = absurd have
-ok_of_one_update law succeeds (Validate ∷ others) around answer updates old new have none fine ne (mid, given, own, tail, parts, executes, inl more) =
+ok_of_all law succeeds [] around answer updates old new none fine ne runs = runs.0
+ok_of_all law succeeds (Validate ∷ others) around answer updates old new none fine ne (mid, given, own, tail, parts, executes, inl more) =
     let kept = kept_by_validate around own old mid given (first_part old mid new fine (runs-later around others answer tail mid new more.1)) (is_ok given more.0) executes in
-    ok_of_one_update law succeeds others around answer tail mid new have (subst (λ (file : List ℕ). NothingRefused around file) (sym kept) none)
+    ok_of_all law succeeds others around answer tail mid new (subst (λ (file : List ℕ). NothingRefused around file) (sym kept) none)
     (last_part old mid new fine (executes-later Validate around given own old mid executes)) ne more.1
-ok_of_one_update law succeeds (Validate ∷ others) around answer updates old new have none fine ne (mid, given, own, tail, parts, executes, inr end) =
+ok_of_all law succeeds (Validate ∷ others) around answer updates old new none fine ne (mid, given, own, tail, parts, executes, inr end) =
     absurd (end.0 (ok_of_validate law around own old mid (plan_of none.plan) given none.checks (subst (NothingFailed old) end.3 fine) (λ m. ne (end.1 ∙ m)) executes))
-ok_of_one_update law succeeds (Update ∷ others) around answer updates old new have none fine ne (mid, given, own, tail, parts, executes, inl more) =
-    ok_of_validates law others around answer tail mid new (plan_of none.plan) have none.checks (last_part old mid new fine (executes-later Update around given own old mid executes)) ne more.1
-ok_of_one_update law succeeds (Update ∷ others) around answer updates old new have none fine ne (mid, given, own, tail, parts, executes, inr end) =
+ok_of_all law succeeds (Update ∷ others) around answer updates old new none fine ne (mid, given, own, tail, parts, executes, inl more) =
+    let next = left_by_update law around own old mid given none (first_part old mid new fine (runs-later around others answer tail mid new more.1)) more.0 executes in
+    ok_of_all law succeeds others around answer tail mid new next (last_part old mid new fine (executes-later Update around given own old mid executes)) ne more.1
+ok_of_all law succeeds (Update ∷ others) around answer updates old new none fine ne (mid, given, own, tail, parts, executes, inr end) =
     absurd (end.0 (ok_of_update law succeeds around own old mid given none (subst (NothingFailed old) end.3 fine) (λ m. ne (end.1 ∙ m)) executes))
 
-pub ok_where_nothing_is_refused : HasOneAnswer → Succeeds → (commands : List Command) (around : Around) (answer : Status) (updates : List Ended) (old new : Standing) → HaveOneUpdate commands → RanWell (Some commands) around answer updates old new
-    → NothingRefused around old.file → answer ≡ status.Ok
-ok_where_nothing_is_refused law succeeds commands around answer updates old new have well none =
-    elim well.ran [ inl out ↦ absurd (well.memory out.0.status) | inr runs ↦ ok_of_one_update law succeeds commands around answer updates old new have none well.fine well.memory runs ]
+or_memory : (answer : Status) → (answer ≢ status.Memory → answer ≡ status.Ok) → (answer ≡ status.Ok) ⊎ (answer ≡ status.Memory)
+or_memory status.Memory well = inr refl
+or_memory _ well = inl (well (λ is. cc))
+
+pub ok_where_nothing_is_refused : HasOneAnswer → Succeeds → (commands : List Command) (around : Around) (answer : Status) (updates : List Ended) (old new : Standing) → Ran (Some commands) around answer updates old new → NothingFailed old new
+    → NothingRefused around old.file → (answer ≡ status.Ok) ⊎ (answer ≡ status.Memory)
+ok_where_nothing_is_refused law succeeds commands around answer updates old new (inl out) fine none = inr out.0.status
+ok_where_nothing_is_refused law succeeds commands around answer updates old new (inr runs) fine none =
+    or_memory answer (λ ne. ok_of_all law succeeds commands around answer updates old new none fine ne runs)
+
+-- ---- a file that became shorter
+
+stops_ended : HasOneState → (around : Around) (file after : List ℕ) (end : UpdateEnd) (updates : List Ended) (has : HasShrunk around file) → IsOwn end → IsUpdate (Some has.table) around end updates file after → status_of_end end ≡ status.Stopped
+stops_ended state around file after end updates has own (ended, is, same, with_it) =
+    let own_too : IsOwn ended.end = subst IsOwn (sym same) own in
+    subst (λ (e : UpdateEnd). status_of_end e ≡ status.Stopped) same
+    (update_stops state has.table (found_by around file) has.state has.at has.dataset has.places has.listed ended.loaded ended.acked ended.tried ended.end (with_it.small (not_failed ended.end own_too)) has.loaded has.holds has.is own_too with_it.updates)
+
+stops_goes_on : HasOneState → (around : Around) (file after : List ℕ) (updates : List Ended) (outcome : Outcome) (has : HasShrunk around file) → GoesOn around (plan_of (Some has.table)) outcome updates file after → status_of outcome ≡ status.Stopped
+stops_goes_on state around file after updates outcome has on =
+    let same : on.plan ≡ Some has.table = one_asked on.plan (Some has.table) (sym on.of_plan) in
+    ap status_of on.is ∙ stops_ended state around file after on.end updates has on.own (subst (λ (given : Option AppendTable). IsUpdate given around on.end updates file after) same on.update)
+
+stopped_by_update : HasOneAnswer → HasOneState → (around : Around) (updates : List Ended) (old mid : Standing) (given : Status) → HasShrunk around old.file → NothingFailed old mid → given ≢ status.Memory → Executes Update around given updates old mid → given ≡ status.Stopped
+stopped_by_update law state around updates old mid given has fine ne (inr out) = absurd (ne out.0.status)
+stopped_by_update law state around updates old mid given has fine ne (inl (outcome, does)) =
+    let is = told outcome given old mid does.tells fine ne in
+    let way = gone Update around given updates outcome old mid fine ne is does.blames does.comes in
+    let same : way.way ≡ PlanText (plan_of (Some has.table)) = one_way law around.text way.way (PlanText (plan_of (Some has.table))) way.is has.checks in
+    is.status ∙ stops_goes_on state around old.file mid.file updates outcome has (subst (λ (each : Way). Goes Update around each outcome updates old.file mid.file) same way.goes)
+
+stopped_by_all : HasOneAnswer → HasOneState → (commands : List Command) (around : Around) (answer : Status) (updates : List Ended) (old new : Standing) → HaveUpdate commands → HasShrunk around old.file → NothingFailed old new → answer ≢ status.Memory
+    → Runs around commands answer updates old new → answer ≡ status.Stopped
+stopped_by_all law state [] around answer updates old new have has fine ne runs = absurd have
+stopped_by_all law state (Validate ∷ others) around answer updates old new have has fine ne (mid, given, own, tail, parts, executes, inl more) =
+    let kept = kept_by_validate around own old mid given (first_part old mid new fine (runs-later around others answer tail mid new more.1)) (is_ok given more.0) executes in
+    stopped_by_all law state others around answer tail mid new have (subst (λ (file : List ℕ). HasShrunk around file) (sym kept) has)
+    (last_part old mid new fine (executes-later Validate around given own old mid executes)) ne more.1
+stopped_by_all law state (Validate ∷ others) around answer updates old new have has fine ne (mid, given, own, tail, parts, executes, inr end) =
+    absurd (end.0 (ok_of_validate law around own old mid (plan_of (Some has.table)) given has.checks (subst (NothingFailed old) end.3 fine) (λ m. ne (end.1 ∙ m)) executes))
+stopped_by_all law state (Update ∷ others) around answer updates old new have has fine ne (mid, given, own, tail, parts, executes, inl more) =
+    let stopped = stopped_by_update law state around own old mid given has (first_part old mid new fine (runs-later around others answer tail mid new more.1)) (is_ok given more.0) executes in
+    absurd (let no : status.Stopped ≡ status.Ok = sym stopped ∙ more.0 in let never : ⊥ = cc in never)
+stopped_by_all law state (Update ∷ others) around answer updates old new have has fine ne (mid, given, own, tail, parts, executes, inr end) =
+    end.1 ∙ stopped_by_update law state around own old mid given has (subst (NothingFailed old) end.3 fine) (λ m. ne (end.1 ∙ m)) executes
+
+stopped_or : (answer : Status) → (answer ≢ status.Memory → answer ≡ status.Stopped) → (answer ≡ status.Stopped) ⊎ (answer ≡ status.Memory)
+stopped_or status.Memory stopped = inr refl
+stopped_or _ stopped = inl (stopped (λ is. cc))
+
+pub stopped_where_a_file_shrank : HasOneAnswer → HasOneState → (commands : List Command) (around : Around) (answer : Status) (updates : List Ended) (old new : Standing) → HaveUpdate commands → Ran (Some commands) around answer updates old new → NothingFailed old new
+    → HasShrunk around old.file → (answer ≡ status.Stopped) ⊎ (answer ≡ status.Memory)
+stopped_where_a_file_shrank law state commands around answer updates old new have (inl out) fine has = inr out.0.status
+stopped_where_a_file_shrank law state commands around answer updates old new have (inr runs) fine has =
+    stopped_or answer (λ ne. stopped_by_all law state commands around answer updates old new have has fine ne runs)
 
 pub ok_where_no_check_is_broken : HasOneAnswer → (commands : List Command) (around : Around) (answer : Status) (updates : List Ended) (old new : Standing) (plan : List Dataset) → AreValidates commands → RanWell (Some commands) around answer updates old new
     → HasPlan around.text plan → answer ≡ status.Ok

@@ -1,8 +1,13 @@
+pub mod AgainLemmas
 pub mod CrashLemmas
 pub mod EndLemmas
 pub mod LeaveLemmas
+pub mod PlaceAgain
 pub mod RunLemmas
+pub mod ShrunkLemmas
+pub mod SpareLemmas
 pub mod TableLemmas
 pub mod TextLemmas
+pub mod UnfitLemmas
 pub mod UpdateLemmas
 pub mod WordLemmas

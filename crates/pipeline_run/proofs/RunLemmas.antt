@@ -1,5 +1,5 @@
 -- How a command comes to an outcome, and how commands go on, one after the other.
-use Rattle.std.proofs.Common.{◌≡◌, ◌≢◌, inl, inr, ℕ, ◌+◌, ◌<◌, ◌≤◌, List, [], ◌∷◌, ◌++◌, length, get_or, drop, take, append-nil, append_assoc, refl, sym, ap, subst, ◌∙◌, Option, Some, None, Result, Ok, Err, IfOk, false, not, arith}
+use Rattle.std.proofs.Common.{◌≡◌, ◌≢◌, ◌⊎◌, inl, inr, ℕ, ◌+◌, ◌<◌, ◌≤◌, List, [], ◌∷◌, ◌++◌, length, get_or, drop, take, append-nil, append_assoc, refl, sym, ap, subst, ◌∙◌, Option, Some, None, Result, Ok, Err, IfOk, false, not, arith}
 use Rattle.std.proofs.lemmas.List.{drop_more, drop_all}
 use denote.Enum.Bare.{sameb}
 use Rattle.disk_model.specs.Faults.{Rose}
@@ -22,8 +22,8 @@ use Rattle.pipeline_run.specs.declared.outcome.Status.{Status}
 use Rattle.pipeline_run.specs.declared.outcome.Status.TheVariants as status
 use Rattle.pipeline_run.specs.Pipeline.{text_limit, HasPlan, HasStatements, IsBroken, Knows}
 use Rattle.pipeline_run.specs.Crash.{HasOutcome, HasExecuted, HasRunAll, HasRun}
-use Rattle.pipeline_run.specs.Run.{Around, found_by, IsIdle, IsUpdate, Counts, NoneFalls, Standing, Comes, Blames, BlamesOf, Tells, RunsOut, Executes, Runs, Refuses, IsTelling, IsOfCommands, AnswersUsage}
-use Rattle.pipeline_run.specs.Report.{status_of, status_of_end}
+use Rattle.pipeline_run.specs.Run.{Around, found_by, IsIdle, IsUpdate, Counts, NoneFalls, Standing, Comes, Blames, BlamesOf, Tells, RunsOut, Executes, Runs, Refuses, IsTelling, IsOfCommands, PrintsOn, SaysShrunk, AnswersUsage}
+use Rattle.pipeline_run.specs.Report.{printed, printed_end, status_of, status_of_end}
 use Rattle.pipeline_run.specs.Update.{Ended, acked_by, loaded_by}
 use Rattle.pipeline_run.proofs.CrashLemmas.{WentWell, SoFar, at_start, all_left, no_updates, leaves_on, well_on}
 use Rattle.pipeline_run.proofs.UpdateLemmas.{unloaded_acked, one_went_well, none_went_well}
@@ -96,6 +96,66 @@ told_disk outcome status.Sink fact telling is load commit = absurd cc
 told_disk outcome status.Text fact telling is load commit = absurd cc
 told_disk outcome status.Stopped fact telling is load commit = absurd cc
 told_disk outcome status.Memory fact telling is load commit = absurd cc
+
+-- ---- what was printed, and why an update stopped
+
+pub told_prints : (outcome : Outcome) (answer : Status) (old new : Standing) → Tells outcome answer old new → PrintsOn old.printed new.printed
+told_prints outcome answer old new (inl told) = (printed outcome, told.line)
+told_prints outcome answer old new (inr cut) = (take cut.line.0 (printed outcome), cut.line.1)
+
+pub nothing_printed : (was : List ℕ) → PrintsOn was was
+nothing_printed was = ([], sym (append-nil was))
+
+pub prints_both : (was mid now : List ℕ) → PrintsOn was mid → PrintsOn mid now → PrintsOn was now
+prints_both was mid now (more, first) (others, second) = (more ++ others, second ∙ ap (λ (printed : List ℕ). printed ++ others) first ∙ append_assoc was more others)
+
+stopped_end : (table : Option (List ℕ)) (end : UpdateEnd) (rose : Type 0) (was now : List ℕ) → status_of_end end ≡ status.Stopped → now ≡ was ++ printed_end table end → (end ≡ ends.LandingFailed → rose)
+    → ((file : List ℕ) (cursor size : ℕ) → end ≡ ends.Shrunk file cursor size → (name : List ℕ) × (table ≡ Some name)) → rose ⊎ SaysShrunk was now
+stopped_end table ends.LandingFailed rose was now is line failed shrunk = inl (failed refl)
+stopped_end table (ends.Shrunk file cursor size) rose was now is line failed shrunk =
+    let named = shrunk file cursor size refl in
+    inr (record {
+      mid = was;
+      table = named.0;
+      file = file;
+      cursor = cursor;
+      size = size;
+      prints = nothing_printed was;
+      line = subst (λ (name : Option (List ℕ)). now ≡ was ++ printed_end name (ends.Shrunk file cursor size)) named.1 line;
+    })
+stopped_end table _ rose was now is line failed shrunk = absurd cc
+
+stopped_outcome : (outcome : Outcome) (rose : Type 0) (was now : List ℕ) → status_of outcome ≡ status.Stopped → now ≡ was ++ printed outcome → ((table : Option (List ℕ)) → outcome ≡ Updated table ends.LandingFailed → rose)
+    → ((table : Option (List ℕ)) (file : List ℕ) (cursor size : ℕ) → outcome ≡ Updated table (ends.Shrunk file cursor size) → (name : List ℕ) × (table ≡ Some name)) → rose ⊎ SaysShrunk was now
+stopped_outcome (Updated table end) rose was now is line failed shrunk =
+    stopped_end table end rose was now is line (λ e. failed table (ap (Updated table) e)) (λ file cursor size e. shrunk table file cursor size (ap (Updated table) e))
+stopped_outcome _ rose was now is line failed shrunk = absurd cc
+
+cut_stops : (answer : Status) (rose prints : Type 0) → ((answer ≡ status.Sink) × rose × prints) ⊎ (answer ≡ status.Memory) → answer ≡ status.Stopped → ⊥
+cut_stops answer rose prints (inl failed) is = let same : status.Sink ≡ status.Stopped = sym failed.0 ∙ is in cc
+cut_stops answer rose prints (inr memory) is = let same : status.Memory ≡ status.Stopped = sym memory ∙ is in cc
+
+pub told_stopped : (outcome : Outcome) (answer : Status) (rose : Type 0) (old new : Standing) → Tells outcome answer old new → answer ≡ status.Stopped → ((table : Option (List ℕ)) → outcome ≡ Updated table ends.LandingFailed → rose)
+    → ((table : Option (List ℕ)) (file : List ℕ) (cursor size : ℕ) → outcome ≡ Updated table (ends.Shrunk file cursor size) → (name : List ℕ) × (table ≡ Some name)) → rose ⊎ SaysShrunk old.printed new.printed
+told_stopped outcome answer rose old new (inl told) is failed shrunk = stopped_outcome outcome rose old.printed new.printed (sym told.status ∙ is) told.line failed shrunk
+told_stopped outcome answer rose old new (inr cut) is failed shrunk = absurd (cut_stops answer (Rose old.faults.sink new.faults.sink) (printed outcome ≢ []) cut.status is)
+
+-- the same behind what was printed before
+pub stopped_later : (before mid now : ℕ) (first was last : List ℕ) → before ≤ mid → PrintsOn first was → Rose mid now ⊎ SaysShrunk was last → Rose before now ⊎ SaysShrunk first last
+stopped_later before mid now first was last later prints (inl rose) = inl (omega arith)
+stopped_later before mid now first was last later prints (inr says) = inr (record {
+  mid = says.mid;
+  table = says.table;
+  file = says.file;
+  cursor = says.cursor;
+  size = says.size;
+  prints = prints_both first was says.mid prints says.prints;
+  line = says.line;
+})
+
+pub only_says : (was now : List ℕ) → Rose 0 0 ⊎ SaysShrunk was now → SaysShrunk was now
+only_says was now (inl rose) = absurd (let never : ⊥ = omega arith in never)
+only_says was now (inr says) = says
 
 -- memory ran out before there was an outcome
 pub ran_out : (timed : Type 0) (command : Command) (around : Around) (old new : Standing) (disk : DiskState) → new.file ≡ old.file → new.printed ≡ old.printed → NoneFalls old.faults new.faults → HasExecuted timed command around status.Memory old new disk disk

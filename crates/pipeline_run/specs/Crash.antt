@@ -1,7 +1,10 @@
 -- What a crash leaves of the store's file, during a run and after it.
-use Rattle.std.specs.Prelude.{◌≡◌, List, [], Option}
-use Rattle.disk_model.specs.Disk.{DiskState, IsUnchanged}
+use Rattle.std.specs.Prelude.{◌≡◌, ℕ, List, [], Option}
+use Rattle.disk_model.specs.declared.disk.Side.TheVariants.{Left}
+use Rattle.disk_model.specs.Disk.{DiskState, IsUnchanged, file}
 use Rattle.disk_model.specs.Moments.{LeavesOnly}
+use Rattle.store_core.specs.Reach.{IsLogEnd}
+use Rattle.store_core.specs.Spared.{IsRefusedFile, IsSpared, LogGoesOn}
 use Rattle.table_update.specs.Crash.{Leaves}
 use Rattle.pipeline_run.specs.declared.command.Command.{Command}
 use Rattle.pipeline_run.specs.declared.outcome.Outcome.{Outcome}
@@ -20,6 +23,11 @@ pub record KeepsDisk (timed : Type 0) (old new : DiskState) : Type 0 where
 pub record LeavesAll (timed : Type 0) (updates : List Ended) (old new : DiskState) : Type 0 where
   pub leaves : Leaves timed (loaded_by updates) (LoadFails updates) old.now.left (acked_by updates) (tried_by updates) old new
   pub none : updates ≡ [] → KeepsDisk timed old new
+
+-- what becomes of a file that isn't empty: one that is refused is spared, and a live log goes on from its end
+pub record KeepsStore (timed : Type 0) (room : ℕ) (old new : DiskState) : Type 0 where
+  pub refused : IsRefusedFile room (file Left old.now) → IsSpared timed old new
+  pub log : (at : ℕ) → IsLogEnd at (file Left old.now) → LogGoesOn timed at old new
 
 -- a command came to this outcome
 pub record HasOutcome (timed : Type 0) (command : Command) (around : Around) (outcome : Outcome) (old new : DiskState) : Type 0 where

@@ -1,9 +1,15 @@
 -- How runs end over devices that don't fail.
-use Rattle.std.specs.Prelude.{◌≡◌, ◌⊎◌, ℕ, List, [], ◌∷◌, Option}
+use Rattle.std.specs.Prelude.{◌≡◌, ◌⊎◌, ℕ, List, [], ◌∷◌, Option, Some}
 use Rattle.disk_model.specs.Faults.{Rose}
+use Rattle.value_core.specs.declared.cursor.FilePlace.{FilePlace}
+use Rattle.landing_core.specs.declared.landing.Listed.{Listed}
+use Rattle.store_state.specs.State.{Dataset, State}
 use Rattle.table_update.specs.declared.table.AppendTable.{AppendTable}
 use Rattle.table_update.specs.Ends as tables
 use Rattle.table_update.specs.Ends.{Alike}
+use Rattle.table_update.specs.Flow.{shrunk}
+use Rattle.table_update.specs.Table.{HoldsTable}
+use Rattle.table_update.specs.Update.{Loaded}
 use Rattle.pipeline_run.specs.declared.command.Command.{Command}
 use Rattle.pipeline_run.specs.declared.command.Command.TheVariants as command
 use Rattle.pipeline_run.specs.declared.outcome.Status.{Status}
@@ -44,14 +50,27 @@ pub record NothingRefused (around : Around) (file : List ℕ) : Type 0 where
   pub checks : HasPlan around.text (plan_of plan)
   pub takes : tables.NothingRefused plan (found_by around file)
 
+-- a store that has the pipeline's table, and a listed file that is shorter than how far the table has read it
+pub record HasShrunk (around : Around) (file : List ℕ) : Type 0 where
+  pub table : AppendTable
+  pub checks : HasPlan around.text (plan_of (Some table))
+  pub state : State
+  pub at : ℕ
+  pub loaded : Loaded (found_by around file) state at
+  pub dataset : Dataset
+  pub places : List FilePlace
+  pub holds : HoldsTable table state dataset places
+  pub listed : Listed
+  pub is : shrunk table around.landing places ≡ Some listed
+
 -- commands that change nothing
 abbrev pub AreValidates : List Command → Type 0
 AreValidates [] = Unit {0}
 AreValidates (command.Validate ∷ commands) = AreValidates commands
 AreValidates (command.Update ∷ commands) = ⊥
 
--- one update, with commands before and behind it that change nothing
-abbrev pub HaveOneUpdate : List Command → Type 0
-HaveOneUpdate [] = ⊥
-HaveOneUpdate (command.Validate ∷ commands) = HaveOneUpdate commands
-HaveOneUpdate (command.Update ∷ commands) = AreValidates commands
+-- commands with an update among them
+abbrev pub HaveUpdate : List Command → Type 0
+HaveUpdate [] = ⊥
+HaveUpdate (command.Validate ∷ commands) = HaveUpdate commands
+HaveUpdate (command.Update ∷ commands) = Unit {0}

@@ -5,7 +5,7 @@ use Rattle.landing_core.specs.declared.landing.LandingFile.{LandingFile}
 use Rattle.pipeline_sql.specs.Read.{IsRefused}
 use Rattle.table_update.specs.Update.{Found}
 use Rattle.table_update.specs.declared.end.UpdateEnd.{UpdateEnd}
-use Rattle.table_update.specs.declared.end.UpdateEnd.TheVariants.{LoadFailed, CommitFailed, LandingFailed}
+use Rattle.table_update.specs.declared.end.UpdateEnd.TheVariants.{LoadFailed, CommitFailed, LandingFailed, Shrunk}
 use Rattle.table_update.specs.declared.table.AppendTable.{AppendTable}
 use Rattle.pipeline_run.specs.declared.command.Command.{Command}
 use Rattle.pipeline_run.specs.declared.command.Command.TheVariants as command
@@ -14,7 +14,7 @@ use Rattle.pipeline_run.specs.declared.outcome.Outcome.TheVariants.{Usage, TextF
 use Rattle.pipeline_run.specs.declared.outcome.Status.{Status}
 use Rattle.pipeline_run.specs.declared.outcome.Status.TheVariants as status
 use Rattle.pipeline_run.specs.Pipeline.{text_limit, HasPlan, IsBroken}
-use Rattle.pipeline_run.specs.Report.{printed, status_of}
+use Rattle.pipeline_run.specs.Report.{printed, printed_end, status_of}
 use Rattle.pipeline_run.specs.Table.{name_of, plan_of}
 use Rattle.pipeline_run.specs.Update.{Ended, EndsWith}
 
@@ -165,6 +165,20 @@ IsOfStatements outcome = Unit {0}
 abbrev pub IsOfCommands : Status → Type 0
 IsOfCommands status.Usage = ⊥
 IsOfCommands _ = Unit {0}
+
+-- more was printed, behind what was there
+abbrev pub PrintsOn : List ℕ → List ℕ → Type 0
+PrintsOn before now = (more : List ℕ) × (now ≡ before ++ more)
+
+-- and last of all the line of a file that became shorter
+pub record SaysShrunk (before now : List ℕ) : Type 0 where
+  pub mid : List ℕ
+  pub table : List ℕ
+  pub file : List ℕ
+  pub cursor : ℕ
+  pub size : ℕ
+  pub prints : PrintsOn before mid
+  pub line : now ≡ mid ++ printed_end (Some table) (Shrunk file cursor size)
 
 -- an answer is Usage exactly where the words are of no form, but for those that say that the line couldn't be printed
 abbrev pub AnswersUsage : Option (List Command) → Status → Type 0

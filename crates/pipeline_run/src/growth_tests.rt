@@ -67,6 +67,19 @@ const JSON: Grown = Grown {
     ],
 };
 
+/// A header line names the columns, though no option says that there is one.
+const LINES: Grown = Grown {
+    text: "CREATE STREAMING TABLE t AS SELECT * FROM STREAM read_files('in', format => 'csv', schema => 'id INT, name STRING, vip BOOLEAN', rescuedDataColumn => '_rescued_data')",
+    table: "t",
+    folder: "in",
+    file: "a.csv",
+    growths: &[Growth {
+        bytes: b"id,name,vip\n1,\"Lee, Ann\",TRUE\nx,Bob,\n2,,false,extra\n",
+        line: b"flow t into t: completed, 3 rows read, version 1\n",
+        shown: "+-|Bob|-|x,Bob,|;1|Lee, Ann|true|-|;2|-|false|2,,false,extra|;read a.csv 52",
+    }],
+};
+
 /// Each growth is taken, told and shown.
 fn grows(rt: &impl Abort, alloc: Global, grown: &Grown) -> Result<(SureDisk, SureLanding), Fail> {
     let mut disk = SureDisk::new(alloc, b"", b"", 4096)?;
@@ -96,7 +109,8 @@ fn a_table_over_csv_grows(rt: HostRuntime) -> Result<(), Fail> {
 }
 
 #[test]
-fn a_table_over_json_grows(rt: HostRuntime) -> Result<(), Fail> {
+fn tables_over_json_and_over_lines_with_a_header_grow(rt: HostRuntime) -> Result<(), Fail> {
     let (_disk, _landing) = grows(&rt, rt.alloc(), &JSON)?;
+    let (_disk, _landing) = grows(&rt, rt.alloc(), &LINES)?;
     Ok(())
 }

@@ -1,17 +1,22 @@
-ghost use Rattle.std.specs.Prelude.{◌≡◌, ℕ, List, [], Option, Some, IsTrue};
+ghost use Rattle.std.specs.Prelude.{◌≡◌, ◌⊎◌, ℕ, List, [], Option, Some, IsTrue};
 ghost use Rattle.plan_core.specs.declared.plan.Dataset.{Dataset};
 ghost use Rattle.table_update.specs.declared.table.AppendTable.{AppendTable};
+ghost use Rattle.landing_core.specs.declared.landing.LandingFile.{LandingFile};
+ghost use Rattle.table_update.specs.declared.end.UpdateEnd.TheVariants as ends;
+ghost use Rattle.table_update.specs.Stands.{HasStanding};
 ghost use Rattle.table_update.specs.Table.{is_sound_plan};
+ghost use Rattle.pipeline_run.specs.declared.outcome.Outcome.TheVariants as outcomes;
 ghost use Rattle.pipeline_run.specs.declared.command.Command.{Command};
 ghost use Rattle.pipeline_run.specs.declared.outcome.Status.{Status};
 ghost use Rattle.pipeline_run.specs.declared.outcome.Status.TheVariants as status;
-ghost use Rattle.pipeline_run.specs.Ends.{RanWell, SameEnd, NothingRefused, AreValidates, HaveOneUpdate};
+ghost use Rattle.pipeline_run.specs.Ends.{NothingFailed, RanWell, SameEnd, NothingRefused, HasShrunk, AreValidates, HaveUpdate};
 ghost use Rattle.pipeline_run.specs.Pipeline.{HasPlan};
-ghost use Rattle.pipeline_run.specs.Run.{Around, Standing};
+ghost use Rattle.pipeline_run.specs.Run.{Around, Comes, Ran, Standing};
 ghost use Rattle.pipeline_run.specs.Table.{AsksFor, plan_of};
 ghost use Rattle.pipeline_run.specs.Update.{Ended};
 
 use pipeline_sql::a_text_has_one_answer;
+use store_core::a_file_has_one_state;
 use table_update::{
     an_update_has_one_end, an_update_succeeds_where_nothing_is_refused as an_update_succeeds,
     settled_files_are_alike,
@@ -29,15 +34,25 @@ pub fn a_run_has_one_end()
     settled_files_are_alike();
 }
 
-/// A law: where no device fails and memory is there, commands succeed that have nothing to refuse. They have one update,
-/// which finds statements that break no check, a store of their table or an empty one, no file shorter than its place,
-/// and room.
-pub fn an_update_succeeds_where_nothing_is_refused()
-    ensures { (commands : List Command) (around : Around) (answer : Status) (updates : List Ended) (old new : Standing) → HaveOneUpdate commands → RanWell (Some commands) around answer updates old new → NothingRefused around old.file → answer ≡ status.Ok }
+/// A law: where no device fails, and there is nothing to refuse when commands begin, they succeed or memory runs out, however
+/// many updates are among them. The text's statements break no check, the store is the pipeline's table or an empty one,
+/// no file is shorter than its place, and there is room. So an update that succeeded leaves nothing to refuse to those behind it.
+pub fn commands_succeed_where_nothing_is_refused()
+    ensures { (commands : List Command) (around : Around) (answer : Status) (updates : List Ended) (old new : Standing) → Ran (Some commands) around answer updates old new → NothingFailed old new → NothingRefused around old.file → (answer ≡ status.Ok) ⊎ (answer ≡ status.Memory) }
 {
     a_text_has_one_answer();
     statements_have_one_answer();
     an_update_succeeds();
+}
+
+/// A law: where no device fails, and a listed file is shorter than how far the pipeline's table has read it, commands with an
+/// update among them stop, or memory runs out. Beside the law before, they stop exactly there, if nothing else is refused.
+pub fn commands_stop_where_a_file_shrank()
+    ensures { (commands : List Command) (around : Around) (answer : Status) (updates : List Ended) (old new : Standing) → HaveUpdate commands → Ran (Some commands) around answer updates old new → NothingFailed old new → HasShrunk around old.file → (answer ≡ status.Stopped) ⊎ (answer ≡ status.Memory) }
+{
+    a_text_has_one_answer();
+    statements_have_one_answer();
+    a_file_has_one_state();
 }
 
 /// A law: where no device fails and memory is there, `validate` succeeds where the text's statements break no check.
@@ -46,6 +61,13 @@ pub fn validates_succeed_where_no_check_is_broken()
 {
     a_text_has_one_answer();
     statements_have_one_answer();
+}
+
+/// A law: where the store stands for the table that the text asks for, no command refuses it as unfit.
+pub fn a_store_that_stands_is_never_unfit()
+    ensures { (command : Command) (around : Around) (table : Option (List ℕ)) (name : List ℕ) (updates : List Ended) (before after : List ℕ) (asked : AppendTable) (ever : List LandingFile) → AsksFor around.text asked → HasStanding asked ever before → Comes command around (outcomes.Updated table (ends.Unfit name)) updates before after → ⊥ }
+{
+    a_file_has_one_state();
 }
 
 /// A law: a text asks for one table or for none.

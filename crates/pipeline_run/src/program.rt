@@ -1,19 +1,21 @@
 // A whole run.
-ghost use Rattle.std.specs.Prelude.{◌≡◌, ◌≤◌, ◌+◌, ℕ, List, Option, Ok, map, length, string_bytes, IfOk, IfErr, OnErr};
-ghost use Rattle.disk_model.specs.declared.disk.Side.TheVariants.{Right};
-ghost use Rattle.disk_model.specs.Disk.{IsHonest};
+ghost use Rattle.std.specs.Prelude.{◌≡◌, ◌⊎◌, ◌≤◌, ◌+◌, ℕ, List, Option, Some, Ok, map, length, string_bytes, IfOk, IfErr, OnErr};
+ghost use Rattle.disk_model.specs.declared.disk.Side.TheVariants.{Left, Right};
+ghost use Rattle.disk_model.specs.Disk.{IsHonest, file};
 ghost use Rattle.disk_model.specs.Faults.{Rose};
 ghost use Rattle.landing_core.specs.Folders.{HoldsPresent};
 ghost use Rattle.commit_gate.specs.AtRest.{LeavesFile};
 ghost use Rattle.store_core.specs.Ours.{IsOurs};
+ghost use Rattle.store_core.specs.Reach.{IsLogEnd};
+ghost use Rattle.store_core.specs.Spared.{IsRefusedFile, IsSpared, LogGoesOn};
 ghost use Rattle.table_update.specs.declared.table.AppendTable.{AppendTable};
 ghost use Rattle.table_update.specs.Stands.{IsFor, IsStanding};
 ghost use Rattle.type_check.specs.Rules.{Checked, OnRefused, broken_at};
 ghost use Rattle.pipeline_run.specs.Command.{commands_of};
-ghost use Rattle.pipeline_run.specs.Crash.{HasOutcome, HasExecuted, HasRunAll, HasRun};
+ghost use Rattle.pipeline_run.specs.Crash.{KeepsStore, HasOutcome, HasExecuted, HasRunAll, HasRun};
 ghost use Rattle.pipeline_run.specs.Pipeline.{text_limit, HasPlan, HasStatements, Knows};
 ghost use Rattle.pipeline_run.specs.Report.{status_of};
-ghost use Rattle.pipeline_run.specs.Run.{Around, Counts, Standing, Tells, IsTelling, IsOfCommand, IsOfStatements, IsOfCommands, AnswersUsage};
+ghost use Rattle.pipeline_run.specs.Run.{Around, Counts, Standing, Tells, IsTelling, IsOfCommand, IsOfStatements, IsOfCommands, PrintsOn, SaysShrunk, AnswersUsage};
 ghost use Rattle.pipeline_run.specs.Table.{AskFor, AsksFor, IsUpdatable, plan_of};
 
 use crate::command::{Command, commands};
@@ -72,6 +74,7 @@ fn updated<D: Disk, L: Landing>(
     requires updatable { IsUpdatable plan.now }
     ensures comes { D.tells → L.tells → (text : List ℕ) → HasPlan text plan.now → IfOk result (λ outcome. HasOutcome D.tells_moments Command.Update (record { text = text; room = D.room disk.old; landing = L.present landing.old }) outcome (D.state disk.old) (D.state disk.new)) }
     ensures err { OnErr result (disk.new ≡ disk.old) }
+    ensures store { D.tells → (disk.new ≡ disk.old) ⊎ KeepsStore D.tells_moments (D.room disk.old) (D.state disk.old) (D.state disk.new) }
     ensures ours { D.tells → IsOurs (D.state disk.old) → IsOurs (D.state disk.new) }
     ensures stands { D.tells → L.tells → (asked : AppendTable) → ((table : Option AppendTable) → plan.now ≡ plan_of table → IsFor table asked) → HoldsPresent (L.present landing.old) (L.ever landing.old) → IsStanding asked (L.ever landing.old) (D.state disk.old) → IsStanding asked (L.ever landing.old) (D.state disk.new) }
     ensures honest { D.tells → IsHonest (D.state disk.new) }
@@ -85,6 +88,7 @@ fn updated<D: Disk, L: Landing>(
     ensures load_fault { (table : Option (List ℕ)) → result ≡ Ok (Outcome.Updated table UpdateEnd.LoadFailed) → Rose (D.faults disk.old) (D.faults disk.new) }
     ensures commit_fault { (table : Option (List ℕ)) → result ≡ Ok (Outcome.Updated table UpdateEnd.CommitFailed) → Rose (D.faults disk.old) (D.faults disk.new) }
     ensures landing_fault { (table : Option (List ℕ)) → result ≡ Ok (Outcome.Updated table UpdateEnd.LandingFailed) → Rose (L.faults landing.old) (L.faults landing.new) }
+    ensures shrunk_of { (table : Option (List ℕ)) (file : List ℕ) (cursor size : ℕ) → result ≡ Ok (Outcome.Updated table (UpdateEnd.Shrunk file cursor size)) → (name : List ℕ) × (table ≡ Some name) }
 {
     let table = table_of(alloc, plan)?;
     let name = name_of(alloc, &table)?;
@@ -103,6 +107,7 @@ fn outcome_by<D: Disk, L: Landing>(
     requires honest { D.tells → IsHonest (D.state disk.old) }
     ensures comes { D.tells → L.tells → (text : List ℕ) → HasStatements text statements.now → IfOk result (λ outcome. HasOutcome D.tells_moments command (record { text = text; room = D.room disk.old; landing = L.present landing.old }) outcome (D.state disk.old) (D.state disk.new)) }
     ensures err { OnErr result (disk.new ≡ disk.old) }
+    ensures store { D.tells → (disk.new ≡ disk.old) ⊎ KeepsStore D.tells_moments (D.room disk.old) (D.state disk.old) (D.state disk.new) }
     ensures ours { D.tells → IsOurs (D.state disk.old) → IsOurs (D.state disk.new) }
     ensures stands { D.tells → L.tells → (asked : AppendTable) → AskFor statements.now asked → HoldsPresent (L.present landing.old) (L.ever landing.old) → IsStanding asked (L.ever landing.old) (D.state disk.old) → IsStanding asked (L.ever landing.old) (D.state disk.new) }
     ensures honest { D.tells → IsHonest (D.state disk.new) }
@@ -116,6 +121,7 @@ fn outcome_by<D: Disk, L: Landing>(
     ensures load_fault { (table : Option (List ℕ)) → result ≡ Ok (Outcome.Updated table UpdateEnd.LoadFailed) → Rose (D.faults disk.old) (D.faults disk.new) }
     ensures commit_fault { (table : Option (List ℕ)) → result ≡ Ok (Outcome.Updated table UpdateEnd.CommitFailed) → Rose (D.faults disk.old) (D.faults disk.new) }
     ensures landing_fault { (table : Option (List ℕ)) → result ≡ Ok (Outcome.Updated table UpdateEnd.LandingFailed) → Rose (L.faults landing.old) (L.faults landing.new) }
+    ensures shrunk_of { (table : Option (List ℕ)) (file : List ℕ) (cursor size : ℕ) → result ≡ Ok (Outcome.Updated table (UpdateEnd.Shrunk file cursor size)) → (name : List ℕ) × (table ≡ Some name) }
 {
     let plan = match checked(alloc, statements) {
         Ok(plan) => plan,
@@ -145,6 +151,7 @@ fn outcome_of<T: Source, D: Disk, L: Landing>(
     ensures knows { T.tells → (whole : List ℕ) → Knows whole known.old (T.left text.old) → IfOk result (λ outcome. status_of outcome ≡ Status.Ok → Knows whole known.new (T.left text.new)) }
     ensures amount { T.tells → (whole : List ℕ) → Knows whole known.old (T.left text.old) → length whole ≤ length (T.left text.old) + text_limit → length whole ≤ length (T.left text.new) + text_limit }
     ensures err { OnErr result (disk.new ≡ disk.old) }
+    ensures store { D.tells → (disk.new ≡ disk.old) ⊎ KeepsStore D.tells_moments (D.room disk.old) (D.state disk.old) (D.state disk.new) }
     ensures ours { D.tells → IsOurs (D.state disk.old) → IsOurs (D.state disk.new) }
     ensures stands { T.tells → D.tells → L.tells → (whole : List ℕ) → Knows whole known.old (T.left text.old) → (asked : AppendTable) → AsksFor whole asked → HoldsPresent (L.present landing.old) (L.ever landing.old) → IsStanding asked (L.ever landing.old) (D.state disk.old) → IsStanding asked (L.ever landing.old) (D.state disk.new) }
     ensures honest { D.tells → IsHonest (D.state disk.new) }
@@ -160,6 +167,7 @@ fn outcome_of<T: Source, D: Disk, L: Landing>(
     ensures load_fault { (table : Option (List ℕ)) → result ≡ Ok (Outcome.Updated table UpdateEnd.LoadFailed) → Rose (D.faults disk.old) (D.faults disk.new) }
     ensures commit_fault { (table : Option (List ℕ)) → result ≡ Ok (Outcome.Updated table UpdateEnd.CommitFailed) → Rose (D.faults disk.old) (D.faults disk.new) }
     ensures landing_fault { (table : Option (List ℕ)) → result ≡ Ok (Outcome.Updated table UpdateEnd.LandingFailed) → Rose (L.faults landing.old) (L.faults landing.new) }
+    ensures shrunk_of { (table : Option (List ℕ)) (file : List ℕ) (cursor size : ℕ) → result ≡ Ok (Outcome.Updated table (UpdateEnd.Shrunk file cursor size)) → (name : List ℕ) × (table ≡ Some name) }
 {
     let statements = match statements(alloc, text, known.take()) {
         Ok(statements) => statements,
@@ -190,6 +198,7 @@ fn execute<T: Source, D: Disk, L: Landing, S: Sink>(
         (D.state disk.old) (D.state disk.new) }
     ensures knows { T.tells → (whole : List ℕ) → Knows whole known.old (T.left text.old) → result ≡ Status.Ok → Knows whole known.new (T.left text.new) }
     ensures amount { T.tells → (whole : List ℕ) → Knows whole known.old (T.left text.old) → length whole ≤ length (T.left text.old) + text_limit → length whole ≤ length (T.left text.new) + text_limit }
+    ensures store { D.tells → KeepsStore D.tells_moments (D.room disk.old) (D.state disk.old) (D.state disk.new) }
     ensures ours { D.tells → IsOurs (D.state disk.old) → IsOurs (D.state disk.new) }
     ensures stands { T.tells → D.tells → L.tells → (whole : List ℕ) → Knows whole known.old (T.left text.old) → (asked : AppendTable) → AsksFor whole asked → HoldsPresent (L.present landing.old) (L.ever landing.old) → IsStanding asked (L.ever landing.old) (D.state disk.old) → IsStanding asked (L.ever landing.old) (D.state disk.new) }
     ensures honest { D.tells → IsHonest (D.state disk.new) }
@@ -200,10 +209,13 @@ fn execute<T: Source, D: Disk, L: Landing, S: Sink>(
     ensures own { IsOfCommands result }
     ensures text_later { T.faults text.old ≤ T.faults text.new }
     ensures disk_later { D.faults disk.old ≤ D.faults disk.new }
+    ensures landing_later { L.faults landing.old ≤ L.faults landing.new }
     ensures sink_later { S.faults out.old ≤ S.faults out.new }
+    ensures prints { S.tells → PrintsOn (S.written out.old) (S.written out.new) }
     ensures text_fault { result ≡ Status.Text → Rose (T.faults text.old) (T.faults text.new) }
     ensures disk_fault { result ≡ Status.Disk → Rose (D.faults disk.old) (D.faults disk.new) }
     ensures sink_fault { result ≡ Status.Sink → Rose (S.faults out.old) (S.faults out.new) }
+    ensures landing_fault { S.tells → result ≡ Status.Stopped → Rose (L.faults landing.old) (L.faults landing.new) ⊎ SaysShrunk (S.written out.old) (S.written out.new) }
 {
     match outcome_of(alloc, command, text, known, disk, landing) {
         Ok(outcome) => tell(alloc, out, &outcome),
@@ -225,6 +237,8 @@ fn execute_all<T: Source, D: Disk, L: Landing, S: Sink>(
         (record { file = (D.state disk.old).now.left; printed = S.written out.old; faults = record { text = T.faults text.old; disk = D.faults disk.old; landing = L.faults landing.old; sink = S.faults out.old } })
         (record { file = (D.state disk.new).now.left; printed = S.written out.new; faults = record { text = T.faults text.new; disk = D.faults disk.new; landing = L.faults landing.new; sink = S.faults out.new } })
         (D.state disk.old) (D.state disk.new) }
+    ensures spared { D.tells → IsRefusedFile (D.room disk.old) (file Left (D.state disk.old).now) → IsSpared D.tells_moments (D.state disk.old) (D.state disk.new) }
+    ensures goes_on { T.tells → D.tells → L.tells → S.tells → (at : ℕ) → IsLogEnd at (file Left (D.state disk.old).now) → LogGoesOn D.tells_moments at (D.state disk.old) (D.state disk.new) }
     ensures ours { D.tells → IsOurs (D.state disk.old) → IsOurs (D.state disk.new) }
     ensures stands { T.tells → D.tells → L.tells → (asked : AppendTable) → AsksFor (T.left text.old) asked → HoldsPresent (L.present landing.old) (L.ever landing.old) → IsStanding asked (L.ever landing.old) (D.state disk.old) → IsStanding asked (L.ever landing.old) (D.state disk.new) }
     ensures honest { D.tells → IsHonest (D.state disk.new) }
@@ -236,6 +250,7 @@ fn execute_all<T: Source, D: Disk, L: Landing, S: Sink>(
     ensures text_fault { result ≡ Status.Text → Rose (T.faults text.old) (T.faults text.new) }
     ensures disk_fault { result ≡ Status.Disk → Rose (D.faults disk.old) (D.faults disk.new) }
     ensures sink_fault { result ≡ Status.Sink → Rose (S.faults out.old) (S.faults out.new) }
+    ensures landing_fault { S.tells → result ≡ Status.Stopped → Rose (L.faults landing.old) (L.faults landing.new) ⊎ SaysShrunk (S.written out.old) (S.written out.new) }
 {
     let mut known = None;
     for command in commands {
@@ -281,6 +296,11 @@ pub fn run<D: Disk, L: Landing, T: Source, S: Sink>(
     // the text asks for none, for any table.
     ensures stands { T.tells → D.tells → L.tells → (asked : AppendTable) → AsksFor (T.left text.old) asked → HoldsPresent (L.present landing.old) (L.ever landing.old) → IsStanding asked (L.ever landing.old) (D.state disk.old) → IsStanding asked (L.ever landing.old) (D.state disk.new) }
 
+    // A file that is no store's, is damaged or has no room for its first log is spared: neither after the run nor at a
+    // moment of it is there an image that wasn't possible before. All that a live log has stays in front, its number too.
+    ensures spared { D.tells → IsRefusedFile (D.room disk.old) (file Left (D.state disk.old).now) → IsSpared D.tells_moments (D.state disk.old) (D.state disk.new) }
+    ensures goes_on { T.tells → D.tells → L.tells → S.tells → (at : ℕ) → IsLogEnd at (file Left (D.state disk.old).now) → LogGoesOn D.tells_moments at (D.state disk.old) (D.state disk.new) }
+
     // What a run leaves alone, and how much it reads.
     ensures ours { D.tells → IsOurs (D.state disk.old) → IsOurs (D.state disk.new) }
     ensures honest { D.tells → IsHonest (D.state disk.new) }
@@ -295,6 +315,9 @@ pub fn run<D: Disk, L: Landing, T: Source, S: Sink>(
     ensures text_fault { result ≡ Status.Text → Rose (T.faults text.old) (T.faults text.new) }
     ensures disk_fault { result ≡ Status.Disk → Rose (D.faults disk.old) (D.faults disk.new) }
     ensures sink_fault { result ≡ Status.Sink → Rose (S.faults out.old) (S.faults out.new) }
+    // An update stops where the landing failed or a file became shorter. The first is answered only where the landing's
+    // count rose, and the second is the last line that was printed, where the output tells.
+    ensures landing_fault { S.tells → result ≡ Status.Stopped → Rose (L.faults landing.old) (L.faults landing.new) ⊎ SaysShrunk (S.written out.old) (S.written out.new) }
 {
     match commands(alloc, words) {
         Ok(Some(commands)) => execute_all(alloc, commands.as_slice(), text, disk, landing, out),

@@ -130,7 +130,7 @@ const UPDATE: &[&str] = &["pipeline.sql", "store", "landing", "update"];
 
 const USAGE: &[u8] = b"usage: PIPELINE STORE LANDING COMMAND [then COMMAND]...\n";
 
-const REFUSALS: [Refusal; 6] = [
+const REFUSALS: [Refusal; 7] = [
     Refusal {
         words: &[],
         text: PIPELINE,
@@ -170,6 +170,14 @@ const REFUSALS: [Refusal; 6] = [
         room: 64,
         status: Status::Store,
         line: b"store refused: foreign left 22\n",
+    },
+    Refusal {
+        words: UPDATE,
+        text: PIPELINE,
+        left: b"\xa5LDPSTORE\x00\x00\x00\x00\x00\x00\x00\x01\xa5",
+        room: 64,
+        status: Status::Store,
+        line: b"store refused: damaged left at 17\n",
     },
     Refusal {
         words: UPDATE,

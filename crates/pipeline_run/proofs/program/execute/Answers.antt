@@ -1,7 +1,8 @@
-use Rattle.std.proofs.Common.{ap, refl, Ok, inl, arith}
+use Rattle.std.proofs.Common.{ap, refl, [], Ok, inl, arith}
 use Rattle.disk_model.specs.Faults.{Rose}
 use Rattle.pipeline_run.specs.Run.{Around, Counts, Standing}
-use Rattle.pipeline_run.proofs.RunLemmas.{blames, told_ok, told_disk, ran_out}
+use Rattle.pipeline_run.proofs.RunLemmas.{blames, nothing_printed, told_ok, told_disk, told_prints, told_stopped, ran_out}
+use Rattle.pipeline_run.proofs.SpareLemmas.{kept_or}
 use Rattle.pipeline_run.proofs.program.execute.Goals as goal
 
 pub returns-in-Ok-clause-executes : goal.returns-in-Ok-clause-executes
@@ -39,6 +40,33 @@ pub returns-in-Ok-clause-disk_fault : goal.returns-in-Ok-clause-disk_fault
 returns-in-Ok-clause-disk_fault g c is =
     told_disk c.in-Ok.outcome c.tell.result (Rose (g.D.Disk.faults c.args.disk.now) (g.D.Disk.faults c.outcome_of.new.disk)) c.tell.ensures.status is
     (λ table e. c.in-Ok.ensures.load_fault table (ap Ok e)) (λ table e. c.in-Ok.ensures.commit_fault table (ap Ok e))
+
+pub returns-in-Ok-clause-store : goal.returns-in-Ok-clause-store
+returns-in-Ok-clause-store g c disk = kept_or g.D.Disk.state g.D.Disk.tells_moments (g.D.Disk.room c.args.disk.now) c.args.disk.now c.outcome_of.new.disk (c.in-Ok.ensures.store disk)
+
+pub returns-in-Err-clause-store : goal.returns-in-Err-clause-store
+returns-in-Err-clause-store g c disk = kept_or g.D.Disk.state g.D.Disk.tells_moments (g.D.Disk.room c.args.disk.now) c.args.disk.now c.outcome_of.new.disk (c.in-Err.ensures.store disk)
+
+pub returns-in-Ok-clause-prints : goal.returns-in-Ok-clause-prints
+returns-in-Ok-clause-prints g c sink =
+    let before : Counts = record { text = 0; disk = 0; landing = 0; sink = g.S.Sink.faults c.args.out.now } in
+    let now : Counts = record { text = 0; disk = 0; landing = 0; sink = g.S.Sink.faults c.tell.new.out } in
+    let old : Standing = record { file = []; printed = g.S.Sink.written c.args.out.now; faults = before } in
+    let new : Standing = record { file = []; printed = g.S.Sink.written c.tell.new.out; faults = now } in
+    told_prints c.in-Ok.outcome c.tell.result old new (c.tell.ensures.tells sink [] [] before now refl refl)
+
+pub returns-in-Ok-clause-landing_fault : goal.returns-in-Ok-clause-landing_fault
+returns-in-Ok-clause-landing_fault g c sink is =
+    let facts = c.in-Ok.ensures in
+    let before : Counts = record { text = 0; disk = 0; landing = 0; sink = g.S.Sink.faults c.args.out.now } in
+    let now : Counts = record { text = 0; disk = 0; landing = 0; sink = g.S.Sink.faults c.tell.new.out } in
+    let old : Standing = record { file = []; printed = g.S.Sink.written c.args.out.now; faults = before } in
+    let new : Standing = record { file = []; printed = g.S.Sink.written c.tell.new.out; faults = now } in
+    told_stopped c.in-Ok.outcome c.tell.result (Rose (g.L.Landing.faults c.args.landing.now) (g.L.Landing.faults c.outcome_of.new.landing)) old new (c.tell.ensures.tells sink [] [] before now refl refl) is
+    (λ table e. facts.landing_fault table (ap Ok e)) (λ table file cursor size e. facts.shrunk_of table file cursor size (ap Ok e))
+
+pub returns-in-Err-clause-prints : goal.returns-in-Err-clause-prints
+returns-in-Err-clause-prints g c sink = nothing_printed (g.S.Sink.written c.args.out.now)
 
 pub returns-in-Err-clause-executes : goal.returns-in-Err-clause-executes
 returns-in-Err-clause-executes g c text disk landing sink whole knows =

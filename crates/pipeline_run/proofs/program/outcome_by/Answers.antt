@@ -1,3 +1,6 @@
+use Rattle.std.proofs.Common.{List, Ok, subst}
+use Rattle.plan_core.specs.declared.plan.Dataset.{Dataset}
+use Rattle.type_check.specs.Rules.{Checked}
 use Rattle.pipeline_run.specs.Run.{Around}
 use Rattle.pipeline_run.proofs.RunLemmas.{outcome_of_validate}
 use Rattle.pipeline_run.proofs.program.outcome_by.Goals as goal
@@ -11,3 +14,7 @@ returns-in-Validate-clause-comes g c disk landing text has =
 pub returns-in-Update-clause-comes : goal.returns-in-Update-clause-comes
 returns-in-Update-clause-comes g c disk landing text has =
     rw c.in-Update.is (c.updated.ensures.comes disk landing text (record { statements = c.args.statements.now; has = has; checked = c.in-Ok.ensures.plan }))
+
+pub returns-in-Update-clause-stands : goal.returns-in-Update-clause-stands
+returns-in-Update-clause-stands g c disk landing asked asks =
+    c.updated.ensures.stands disk landing asked (λ table is. asks table (subst (λ (plan : List Dataset). Checked c.args.statements.now (Ok plan)) is c.in-Ok.ensures.plan))

@@ -23,6 +23,7 @@ returns-in-Err-Refused g c = record {
   knows = search rules;
   amount = search rules;
   err = search rules;
+  store = search rules;
   ours = search rules;
   stands = search rules;
   honest = search rules;
@@ -38,4 +39,5 @@ returns-in-Err-Refused g c = record {
   load_fault = search rules;
   commit_fault = search rules;
   landing_fault = search rules;
+  shrunk_of = search rules;
 }

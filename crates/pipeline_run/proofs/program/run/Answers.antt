@@ -2,6 +2,7 @@ use Rattle.std.proofs.Common.{map, sym, refl, string_bytes}
 use Rattle.pipeline_run.specs.Command.{commands_of}
 use Rattle.pipeline_run.specs.Run.{Around, Counts, Standing}
 use Rattle.pipeline_run.proofs.RunLemmas.{ran_no_words, ran_commands, ran_out_of_words}
+use Rattle.pipeline_run.proofs.SpareLemmas.{goes_itself, spared_itself}
 use Rattle.pipeline_run.proofs.program.run.Goals as goal
 
 pub returns-in-Ok-Some-clause-ran : goal.returns-in-Ok-Some-clause-ran
@@ -41,3 +42,15 @@ returns-in-Err-clause-ran g c text disk landing sink =
     let around : Around = record { text = t.left c.args.text.now; room = d.room c.args.disk.now; landing = f.present c.args.landing.now } in
     let old : Standing = record { file = (d.state c.args.disk.now).now.left; printed = s.written c.args.out.now; faults = record { text = t.faults c.args.text.now; disk = d.faults c.args.disk.now; landing = f.faults c.args.landing.now; sink = s.faults c.args.out.now } } in
     ran_out_of_words d.tells_moments (commands_of (map string_bytes c.args.words.now)) around old (d.state c.args.disk.now)
+
+pub returns-in-Ok-None-clause-spared : goal.returns-in-Ok-None-clause-spared
+returns-in-Ok-None-clause-spared g c disk is = spared_itself g.D.Disk.tells_moments (g.D.Disk.state c.args.disk.now)
+
+pub returns-in-Ok-None-clause-goes_on : goal.returns-in-Ok-None-clause-goes_on
+returns-in-Ok-None-clause-goes_on g c text disk landing sink at log = goes_itself g.D.Disk.tells_moments at (g.D.Disk.state c.args.disk.now) log
+
+pub returns-in-Err-clause-spared : goal.returns-in-Err-clause-spared
+returns-in-Err-clause-spared g c disk is = spared_itself g.D.Disk.tells_moments (g.D.Disk.state c.args.disk.now)
+
+pub returns-in-Err-clause-goes_on : goal.returns-in-Err-clause-goes_on
+returns-in-Err-clause-goes_on g c text disk landing sink at log = goes_itself g.D.Disk.tells_moments at (g.D.Disk.state c.args.disk.now) log

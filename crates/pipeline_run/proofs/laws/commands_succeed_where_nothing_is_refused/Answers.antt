@@ -1,5 +1,5 @@
 use Rattle.pipeline_run.proofs.EndLemmas.{HasOneAnswer, ok_where_nothing_is_refused}
-use Rattle.pipeline_run.proofs.laws.an_update_succeeds_where_nothing_is_refused.Goals as goal
+use Rattle.pipeline_run.proofs.laws.commands_succeed_where_nothing_is_refused.Goals as goal
 
 pub returns : goal.returns
 returns c =
