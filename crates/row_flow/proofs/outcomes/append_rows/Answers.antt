@@ -1,0 +1,15 @@
+use Rattle.std.proofs.Common.{◌≡◌, ◌+◌, List, IfOk, map, subst, arith}
+use Rattle.value_core.specs.Order.{Row}
+use Rattle.flow_model.specs.Append.{judged}
+use Rattle.par_rows.specs.Rows.{numbered}
+use Rattle.par_rows.proofs.RowLemmas.{answered_as}
+use Rattle.row_flow.specs.declared.result.Judged.{Judged}
+use Rattle.row_flow.specs.Results.{Come, IsResult, append_result}
+use Rattle.row_flow.proofs.ResultLemmas.{come_of}
+use Rattle.row_flow.proofs.outcomes.append_rows.Goals as goal
+
+pub returns : goal.returns
+returns g c =
+    let xs = c.args.expectations.now in
+    let answered = answered_as _ (λ i x answer. IfOk answer (IsResult xs (append_result (i + 1) (judged c.args.flow.now c.args.expectations.now x)))) (λ i x answer given. subst (λ x. IfOk answer (IsResult xs (append_result (i + 1) (judged c.args.flow.now c.args.expectations.now x)))) given.lent_is given.call) 0 c.args.rows.now c.in_ok-outcomes.outcomes.items c.in_ok-outcomes.ensures in
+    come_of xs (λ i x. append_result (i + 1) (judged c.args.flow.now c.args.expectations.now x)) 0 c.args.rows.now c.in_ok-outcomes.outcomes.items answered
