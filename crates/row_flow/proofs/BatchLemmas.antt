@@ -1,5 +1,5 @@
 -- The batches of flows, from what was gathered of their rows.
-use Rattle.std.proofs.Common.{◌≡◌, ◌∙◌, refl, sym, ap, ℕ, List, length, Option, None, Result, Ok, Err, IfOk, IfErr, OnOk}
+use Rattle.std.proofs.Common.{◌≡◌, ◌∙◌, sym, ap, ℕ, List, length, Option, None, Result, Ok, Err, IfOk, IfErr, OnOk}
 use Rattle.std.specs.Prelude.{filter_map}
 use Rattle.value_core.specs.Bags.{in_row_order}
 use Rattle.value_core.specs.declared.change.Tally.{Tally}

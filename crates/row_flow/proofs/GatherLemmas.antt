@@ -1,5 +1,5 @@
 -- The results of rows, one after another.
-use Rattle.std.proofs.Common.{◌≡◌, ◌∙◌, refl, sym, ap, subst, ℕ, suc, ◌+◌, List, [], ◌∷◌, ◌++◌, length, Bool, Option, Some, None, Result, Ok, Err, arith, append_assoc}
+use Rattle.std.proofs.Common.{◌≡◌, ◌∙◌, refl, sym, ap, subst, ℕ, ◌+◌, List, [], ◌∷◌, ◌++◌, length, Bool, Some, None, Result, Ok, arith, append_assoc}
 use Rattle.std.specs.Prelude.{filter_map, option_map, option_to_list}
 use Rattle.std.specs.List.{cons_option}
 use Rattle.std.proofs.lemmas.List.{append-nil}
@@ -15,7 +15,7 @@ use Rattle.row_flow.specs.declared.result.Judged.{Judged}
 use Rattle.row_flow.specs.declared.result.Judged.TheVariants.{Passed, Kept, Dropped, Upsert, Other, Halt}
 use Rattle.row_flow.specs.declared.result.RowResult.{RowResult}
 use Rattle.row_flow.specs.Gathers.{Gathers, counted}
-use Rattle.row_flow.specs.Results.{AreMarks, Come, IsResult, before_halt, event_of, events_from, first_halt, halt_of, kept_of, seen_of}
+use Rattle.row_flow.specs.Results.{AreMarks, Come, before_halt, event_of, events_from, first_halt, halt_of, kept_of, seen_of}
 use Rattle.row_flow.proofs.CountLemmas.{counts_on, length-counts, whole, zeros}
 
 -- what stands before the rows that are left

@@ -1,10 +1,9 @@
 -- What rows come to, and what the definitions say of them.
-use Rattle.std.proofs.Common.{◌≡◌, ◌∙◌, refl, sym, ap, ℕ, ◌+◌, List, [], ◌∷◌, ◌++◌, length, map, suc, cond, Bool, true, false, Option, Some, None, Result, Ok, Err, IfOk, ⊎_elim}
+use Rattle.std.proofs.Common.{◌≡◌, ◌∙◌, refl, ap, ℕ, ◌+◌, List, [], ◌∷◌, length, map, suc, cond, Bool, true, false, Option, Some, None, Result, Ok, Err, IfOk, ⊎_elim}
 use Rattle.std.specs.Prelude.{filter_map, option_map}
 use Rattle.std.specs.List.{cons_option}
 use Rattle.std.specs.Option.{option_or}
 use Rattle.value_core.specs.declared.event.Event.{Event}
-use Rattle.value_core.specs.declared.event.NumberedEvent.{NumberedEvent}
 use Rattle.value_core.specs.EventOrder.{is_upsert}
 use Rattle.value_core.specs.Order.{Row}
 use Rattle.row_expr.specs.declared.fault.RowFault.TheVariants as answer
@@ -24,7 +23,7 @@ use Rattle.row_flow.specs.declared.result.RowResult.{RowResult}
 use Rattle.row_flow.specs.declared.result.RowStop.{RowStop}
 use Rattle.row_flow.specs.declared.result.RowStop.TheVariants as why
 use Rattle.row_flow.specs.Judges.{FeedJudges, IsCause, IsNoMemory, IsNoSequence, Judges, StopsAt}
-use Rattle.row_flow.specs.Results.{AreMarks, Come, IsResult, append_result, append_results, before_halt, event_of, event_result, events_from, feed_result, feed_results, first_halt, halt_of, kept_of, seen_of}
+use Rattle.row_flow.specs.Results.{Come, IsResult, append_result, append_results, before_halt, event_result, events_from, feed_result, feed_results, first_halt, halt_of, kept_of, seen_of}
 
 -- ---- one row
 

@@ -1,5 +1,5 @@
 -- What the results of rows come to, up to the first that stops.
-use Rattle.std.specs.Prelude.{◌≡◌, ℕ, ◌+◌, ◌<◌, List, [], ◌∷◌, ◌++◌, Bool, true, false, length, map, filter_map, Option, Some, None}
+use Rattle.std.specs.Prelude.{◌≡◌, ℕ, ◌+◌, ◌<◌, List, [], ◌∷◌, Bool, true, false, length, map, filter_map, Option, Some, None}
 use Rattle.value_core.specs.declared.change.Tally.{Tally}
 use Rattle.value_core.specs.declared.event.NumberedEvent.{NumberedEvent}
 use Rattle.value_core.specs.Order.{Row}

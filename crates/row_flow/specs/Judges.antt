@@ -1,5 +1,5 @@
 -- What the code answers of one row.
-use Rattle.std.specs.Prelude.{◌≡◌, ◌⊎◌, ℕ, List, Bool, true, false, if◌then◌else◌, Result, Ok, Err}
+use Rattle.std.specs.Prelude.{◌≡◌, ◌⊎◌, ℕ, List, Bool, if◌then◌else◌, Result, Ok, Err}
 use Rattle.value_core.specs.declared.event.EventKind.{EventKind}
 use Rattle.value_core.specs.declared.event.EventKind.TheVariants as kind
 use Rattle.value_core.specs.Order.{Row}

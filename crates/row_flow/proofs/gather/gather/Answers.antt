@@ -1,4 +1,4 @@
-use Rattle.std.proofs.Common.{◌≡◌, ◌∙◌, sym, ap, subst, ◌+◌, ◌^◌, List, [], ◌∷◌, length, Result, Ok, arith}
+use Rattle.std.proofs.Common.{◌∙◌, sym, ap, subst, ◌+◌, ◌^◌, List, [], ◌∷◌, length, Result, arith}
 use Rattle.std.specs.declared.alloc.AllocError.{AllocError}
 use Rattle.std.proofs.lemmas.List.{nil_from_length}
 use Rattle.row_flow.specs.declared.result.RowResult.{RowResult}

@@ -1,10 +1,7 @@
-use Rattle.std.proofs.Common.{◌≡◌, ◌+◌, List, IfOk, map, subst, arith}
-use Rattle.value_core.specs.Order.{Row}
+use Rattle.std.proofs.Common.{◌+◌, IfOk, subst}
 use Rattle.flow_model.specs.Append.{judged}
-use Rattle.par_rows.specs.Rows.{numbered}
 use Rattle.par_rows.proofs.RowLemmas.{answered_as}
-use Rattle.row_flow.specs.declared.result.Judged.{Judged}
-use Rattle.row_flow.specs.Results.{Come, IsResult, append_result}
+use Rattle.row_flow.specs.Results.{IsResult, append_result}
 use Rattle.row_flow.proofs.ResultLemmas.{come_of}
 use Rattle.row_flow.proofs.outcomes.append_rows.Goals as goal
 

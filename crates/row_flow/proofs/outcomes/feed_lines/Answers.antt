@@ -1,7 +1,5 @@
-use Rattle.std.proofs.Common.{◌≡◌, ◌+◌, List, IfOk, map, subst, arith}
-use Rattle.value_core.specs.Order.{Row}
+use Rattle.std.proofs.Common.{◌+◌, List, IfOk, subst}
 use Rattle.flow_model.specs.Feed.{reading}
-use Rattle.par_rows.specs.Rows.{numbered}
 use Rattle.par_rows.proofs.RowLemmas.{answered_as}
 use Rattle.row_flow.specs.declared.result.Judged.{Judged}
 use Rattle.row_flow.specs.Results.{Come, IsResult, feed_result}
