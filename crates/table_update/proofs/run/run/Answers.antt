@@ -1,5 +1,7 @@
 use Rattle.std.proofs.Common.{◌≤◌, arith}
 use Rattle.commit_gate.specs.AtRest.{log_end}
+use Rattle.disk_model.specs.declared.disk.Side.TheVariants.{Right}
+use Rattle.commit_gate.proofs.RestLemmas.{leaves_on}
 use Rattle.store_core.specs.Store.{store_state, store_log}
 use Rattle.store_core.proofs.LoadLemmas.{left_state}
 use Rattle.store_core.proofs.SparedLemmas.{end_within, goes_on_on, still_goes_on}
@@ -61,3 +63,8 @@ pub returns-in-Ok-commit-clause-goes_on : goal.returns-in-Ok-commit-clause-goes_
 returns-in-Ok-commit-clause-goes_on g c = λ told honest.
     goes_on_on g.D.Disk.tells_moments (log_end (store_log c.args.store.now)) (log_end (store_log c.commit.new.store)) (g.D.Disk.state c.args.disk.now) (g.D.Disk.state c.commit.new.disk) (g.D.Disk.state c.flow-in-Ok-commit.new.disk)
     (omega (arith, c.in-Ok-commit.ensures.grows told honest)) (c.in-Ok-commit.ensures.goes_on told honest) (c.flow-in-Ok-commit.ensures.goes_on told (c.in-Ok-commit.ensures.honest told honest))
+
+pub returns-in-Ok-commit-clause-kept : goal.returns-in-Ok-commit-clause-kept
+returns-in-Ok-commit-clause-kept g c = λ told honest.
+    leaves_on Right (g.D.Disk.state c.args.disk.now) (g.D.Disk.state c.commit.new.disk) (g.D.Disk.state c.flow-in-Ok-commit.new.disk)
+    (c.in-Ok-commit.ensures.kept told honest) (c.flow-in-Ok-commit.ensures.kept told (c.in-Ok-commit.ensures.honest told honest))
