@@ -80,16 +80,21 @@ fn ones(alloc: Global) -> Result<Rows, AllocError> {
     Ok(rows)
 }
 
+/// The number of the row of an overflow.
+fn overflow_at(stop: &Stop) -> Option<u64> {
+    match stop {
+        Stop::Overflow { place } => match place {
+            Place::Number(number) => Some(*number),
+            Place::Of(_) => None,
+        },
+        _ => None,
+    }
+}
+
 /// The number of the row at which a batch overflowed.
-fn overflow_of(batch: Result<Batch, StopOr>) -> Option<u64> {
+fn overflow_of(batch: &Result<Batch, StopOr>) -> Option<u64> {
     match batch {
-        Err(
-            StopOr::Stop(
-                Stop::Overflow {
-                    place: Place::Number(number),
-                },
-            ),
-        ) => Some(number),
+        Err(StopOr::Stop(stop)) => overflow_at(stop),
         _ => None,
     }
 }
@@ -102,9 +107,9 @@ fn the_least_row_stops_a_flow_by_any_number_of_workers(rt: HostRuntime) -> Resul
     let input = Input::Rows(&rows);
     let none = ListOf::new(m);
     let serial = append_batch(&rt, m, &NoGate, 1, &adding, &none, &input);
-    assert!(rt; overflow_of(serial) == Some(1700));
+    assert!(rt; overflow_of(&serial) == Some(1700));
     let many = append_batch(&rt, m, &NoGate, 64, &adding, &none, &input);
-    assert!(rt; overflow_of(many) == Some(1700));
+    assert!(rt; overflow_of(&many) == Some(1700));
     Ok(())
 }
 
