@@ -92,17 +92,17 @@ dataset_for name text files given = rw (exprs_over given, columns_over given) re
 abbrev HasTable : Result Dataset CheckFault → Type 0
 HasTable given = (dataset : Dataset) → given ≡ Ok dataset → (table : AppendTable) × (dataset ≡ dataset_of table)
 
-given_table : (text : List ℕ) (form : Form) (files : FilesRead) (broken : Option CheckFault) → HasTable (over_outputs text form files (unless broken (outputs.outputs_of files.shape.columns form.outs)))
+given_table : (text : List ℕ) (form : Form) (files : FilesRead) (broken : Option CheckFault) → HasTable (over_outputs text form files (unless broken (outputs.outputs_seen files.shape.columns form.outs)))
 given_table text form files (Some fault) dataset is = absurd (cc is)
 given_table text form files None dataset is =
-    let given = outputs.outputs_of files.shape.columns form.outs in
+    let given = outputs.outputs_seen files.shape.columns form.outs in
     let same : dataset_over form.name text files given ≡ dataset = cc is in
     (table_for form.name text files given, sym same ∙ dataset_for form.name text files given)
 
 by_table : (text : List ℕ) (form : Form) (files : By FilesRead) → HasTable (table_by text form files)
 by_table text form (Err word) dataset is = absurd (cc is)
 by_table text form (Ok files) dataset is =
-    given_table text form files (first_break (select_checks form.stream form.groups form.outs files.shape.columns ++ column_checks form.declared (outputs.columns_of (outputs.outputs_of files.shape.columns form.outs)))) dataset is
+    given_table text form files (first_break (select_checks form.stream form.groups form.outs files.shape.columns ++ column_checks form.declared (outputs.columns_of (outputs.outputs_seen files.shape.columns form.outs)))) dataset is
 
 behind_table : (text : List ℕ) (form : Form) (fault : Option CheckFault) (table : Result Dataset CheckFault) → JudgedBehind text form fault table → HasTable table
 behind_table text form (Some fault) table f dataset is = absurd (cc (sym is ∙ f))
