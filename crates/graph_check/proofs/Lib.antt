@@ -1,0 +1,5 @@
+mod WalkLemmas
+mod RoundLemmas
+mod CycleLemmas
+mod MarkLemmas
+mod LawLemmas
