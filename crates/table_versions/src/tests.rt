@@ -93,21 +93,42 @@ fn read<L: Ledger, R: Abort>(rt: &R, alloc: Global, steps: &mut Steps<L>) -> Res
     Ok(())
 }
 
+// What goes and what comes after version 1.
+fn nets<L: Ledger, R: Abort>(
+    rt: &R,
+    alloc: Global,
+    table: &Table,
+    steps: &mut Steps<L>,
+) -> Result<(), Fail> {
+    let change = table.net(alloc, 1, steps)?;
+    is(rt, &change.removed, &counted(alloc, 1)?);
+    is(rt, &change.added, &counted(alloc, 3)?);
+    Ok(())
+}
+
+fn is<R: Abort>(rt: &R, rows: &Rows, want: &Rows) {
+    assert!(rt; rows.as_slice() == want.as_slice());
+}
+
+// The last version is one change after version 1, and can be taken back.
 fn change<L: Ledger, R: Abort>(rt: &R, alloc: Global, steps: &mut Steps<L>) -> Result<(), Fail> {
     let mut table = view(alloc, steps)?;
-    let change = table.net(alloc, 1, steps)?;
-    assert!(rt; change.removed.as_slice() == counted(alloc, 1)?.as_slice());
-    assert!(rt; change.added.as_slice() == counted(alloc, 3)?.as_slice());
+    nets(rt, alloc, &table, steps)?;
     assert_eq!(rt; table.since(alloc, 1, steps)?.len(), 1);
     table.take_back();
     assert_eq!(rt; table.now(), 1);
     Ok(())
 }
 
-fn fold<L: Ledger, R: Abort>(rt: &R, alloc: Global, steps: &mut Steps<L>) -> Result<(), Fail> {
+// The table with version 1 as its base, taken apart and put together.
+fn folded<L: Ledger>(alloc: Global, steps: &mut Steps<L>) -> Result<Table, Fail> {
     let table = view(alloc, steps)?.fold_base(alloc, 1, steps)?;
     let (base, rows, changes) = table.into_parts();
-    let table = Table::from_parts(base, rows, changes);
+    Ok(Table::from_parts(base, rows, changes))
+}
+
+fn fold<L: Ledger, R: Abort>(rt: &R, alloc: Global, steps: &mut Steps<L>) -> Result<(), Fail> {
+    let table = folded(alloc, steps)?;
     assert_eq!(rt; (table.base(), table.now()), (1, 2));
     has(rt, alloc, &table, 1, &counted(alloc, 1)?, steps)?;
     has(rt, alloc, &table, 2, &counted(alloc, 3)?, steps)?;
