@@ -1,0 +1,3 @@
+pub mod Touched
+pub mod Turned
+pub mod Weights
