@@ -88,44 +88,55 @@ columns_over (first ∷ more) = ap (λ rest. first.column ∷ rest) (columns_ove
 dataset_for : (name text : List ℕ) (files : FilesRead) (given : List checked.Output) → dataset_over name text files given ≡ dataset_of (table_for name text files given)
 dataset_for name text files given = rw (exprs_over given, columns_over given) refl
 
--- a plan of what is given is one of a table
-abbrev HasTable : Result Dataset CheckFault → Type 0
-HasTable given = (dataset : Dataset) → given ≡ Ok dataset → (table : AppendTable) × (dataset ≡ dataset_of table)
+-- a dataset of what is given is a table of this text
+abbrev HasTable : List ℕ → Result Dataset CheckFault → Type 0
+HasTable text given = (dataset : Dataset) → given ≡ Ok dataset → (table : AppendTable) × (dataset ≡ dataset_of table) × (table.text ≡ text)
 
-given_table : (text : List ℕ) (form : Form) (files : FilesRead) (broken : Option CheckFault) → HasTable (over_outputs text form files (unless broken (outputs.outputs_seen files.shape.columns form.outs)))
+given_table : (text : List ℕ) (form : Form) (files : FilesRead) (broken : Option CheckFault) → HasTable text (over_outputs text form files (unless broken (outputs.outputs_seen files.shape.columns form.outs)))
 given_table text form files (Some fault) dataset is = absurd (cc is)
 given_table text form files None dataset is =
     let given = outputs.outputs_seen files.shape.columns form.outs in
     let same : dataset_over form.name text files given ≡ dataset = cc is in
-    (table_for form.name text files given, sym same ∙ dataset_for form.name text files given)
+    (table_for form.name text files given, sym same ∙ dataset_for form.name text files given, refl)
 
-by_table : (text : List ℕ) (form : Form) (files : By FilesRead) → HasTable (table_by text form files)
+by_table : (text : List ℕ) (form : Form) (files : By FilesRead) → HasTable text (table_by text form files)
 by_table text form (Err word) dataset is = absurd (cc is)
 by_table text form (Ok files) dataset is =
     given_table text form files (first_break (select_checks form.stream form.groups form.outs files.shape.columns ++ column_checks form.declared (outputs.columns_of (outputs.outputs_seen files.shape.columns form.outs)))) dataset is
 
-behind_table : (text : List ℕ) (form : Form) (fault : Option CheckFault) (table : Result Dataset CheckFault) → JudgedBehind text form fault table → HasTable table
+behind_table : (text : List ℕ) (form : Form) (fault : Option CheckFault) (table : Result Dataset CheckFault) → JudgedBehind text form fault table → HasTable text table
 behind_table text form (Some fault) table f dataset is = absurd (cc (sym is ∙ f))
 behind_table text form None table f dataset is = by_table text form f.0 dataset (sym f.2 ∙ is)
 
-judged_table : (text : List ℕ) (form : Option Form) (table : Result Dataset CheckFault) → Judged text form table → HasTable table
+judged_table : (text : List ℕ) (form : Option Form) (table : Result Dataset CheckFault) → Judged text form table → HasTable text table
 judged_table text None table f dataset is = absurd (cc (sym is ∙ f))
 judged_table text (Some form) table f dataset is = behind_table text form (first_break (declared_checks form.declared)) table f dataset is
 
-abbrev PlanHasTable : List Dataset → Type 0
-PlanHasTable plan = (asked : Option AppendTable) × (plan ≡ plan_of asked)
+-- a table has this text, where there is one
+abbrev IsOfText : List ℕ → Option AppendTable → Type 0
+IsOfText text None = Unit {0}
+IsOfText text (Some table) = table.text ≡ text
 
-one_table : (text : List ℕ) (form : Option Form) (table : Result Dataset CheckFault) (plan : List Dataset) → Judged text form table → Ok plan ≡ as_plan table → PlanHasTable plan
+abbrev PlanHasTable : List ℕ → List Dataset → Type 0
+PlanHasTable text plan = (asked : Option AppendTable) × (plan ≡ plan_of asked) × IsOfText text asked
+
+one_table : (text : List ℕ) (form : Option Form) (table : Result Dataset CheckFault) (plan : List Dataset) → Judged text form table → Ok plan ≡ as_plan table → PlanHasTable text plan
 one_table text form (Err fault) plan f is = absurd (cc is)
 one_table text form (Ok dataset) plan f is =
     let same : plan ≡ dataset ∷ [] = cc is in
     let has = judged_table text form (Ok dataset) f dataset refl in
-    (Some has.0, same ∙ ap (λ (first : Dataset). first ∷ []) has.1)
+    (Some has.0, same ∙ ap (λ (first : Dataset). first ∷ []) has.1, has.2)
 
-comes_table : (statements : List Statement) (plan : List Dataset) → Comes statements (Ok plan) → PlanHasTable plan
-comes_table [] plan f = let same : plan ≡ [] = cc f in (None, same)
+comes_table : (statements : List Statement) (plan : List Dataset) → Comes statements (Ok plan) → PlanHasTable (text_of statements) plan
+comes_table [] plan f = let same : plan ≡ [] = cc f in (None, same, tt)
 comes_table (first ∷ []) plan f = one_table (text_of (first ∷ [])) (form_of first) f.0 plan f.1 f.2
 comes_table (first ∷ next ∷ more) plan f = absurd (cc f)
+
+-- the table of checked statements has their text
+pub checked_text : (statements : List Statement) (table : AppendTable) → Checked statements (Ok (plan_of (Some table))) → table.text ≡ text_of statements
+checked_text statements table f =
+    let has = comes_table statements (plan_of (Some table)) f.comes in
+    subst (IsOfText (text_of statements)) (sym (one_asked (Some table) has.0 has.1)) has.2
 
 -- ---- a sound one
 

@@ -15,7 +15,7 @@ ghost use Rattle.pipeline_run.specs.Run.{Around, Comes, Ran, Standing};
 ghost use Rattle.pipeline_run.specs.Table.{AsksFor, plan_of};
 ghost use Rattle.pipeline_run.specs.Update.{Ended};
 
-use pipeline_sql::a_text_has_one_answer;
+use pipeline_sql::{a_reading_has_one_print, a_text_has_one_answer};
 use store_core::a_file_has_one_state;
 use table_update::{
     an_update_has_one_end, an_update_succeeds_where_nothing_is_refused as an_update_succeeds,
@@ -63,10 +63,21 @@ pub fn validates_succeed_where_no_check_is_broken()
     statements_have_one_answer();
 }
 
-/// A law: where the store stands for the table that the text asks for, no command refuses it as unfit.
-pub fn a_store_that_stands_is_never_unfit()
-    ensures { (command : Command) (around : Around) (table : Option (List ℕ)) (name : List ℕ) (updates : List Ended) (before after : List ℕ) (asked : AppendTable) (ever : List LandingFile) → AsksFor around.text asked → HasStanding asked ever before → Comes command around (outcomes.Updated table (ends.Unfit name)) updates before after → ⊥ }
+/// A law: tables of one canonical text are one, with their columns, files and options, whichever texts ask for them.
+pub fn tables_of_one_text_are_one()
+    ensures { (text other : List ℕ) (table also : AppendTable) → HasPlan text (plan_of (Some table)) → HasPlan other (plan_of (Some also)) → table.text ≡ also.text → table ≡ also }
 {
+    a_reading_has_one_print();
+    statements_have_one_answer();
+}
+
+/// A law: where the store stands for the table of a text that passes the checks, whichever text that is, no command refuses it
+/// as unfit.
+pub fn a_store_that_stands_is_never_unfit()
+    ensures { (text : List ℕ) (stood : AppendTable) (ever : List LandingFile) (command : Command) (around : Around) (table : Option (List ℕ)) (name : List ℕ) (updates : List Ended) (before after : List ℕ) → HasPlan text (plan_of (Some stood)) → HasStanding stood ever before → Comes command around (outcomes.Updated table (ends.Unfit name)) updates before after → ⊥ }
+{
+    a_reading_has_one_print();
+    statements_have_one_answer();
     a_file_has_one_state();
 }
 

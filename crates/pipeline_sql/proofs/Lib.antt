@@ -1,4 +1,5 @@
 pub mod Told
+pub mod TextLexemes
 pub mod OneAnswer
 pub mod Safe
 pub mod SafeExprs

@@ -19,8 +19,9 @@ use Rattle.sql_statements.specs.declared.error.Refusal.TheVariants as refused
 use Rattle.sql_statements.specs.Pipelines.{IsPipeline, IsShortPipeline, IsTooLong, whole}
 use Rattle.sql_statements.proofs.Prints.{pipeline_reads, prints_apart}
 use Rattle.sql_statements.proofs.Answers.{IsTrueOf, whole_true, wide, one_pipeline}
-use Rattle.pipeline_sql.specs.Read.{IsScanned, lexemes_of, IsRead, print_text, IsWithinLimits}
+use Rattle.pipeline_sql.specs.Read.{Text, IsScanned, lexemes_of, IsRead, print_text, IsWithinLimits}
 use Rattle.pipeline_sql.proofs.SafeStatements.{print_spellable}
+use Rattle.pipeline_sql.proofs.TextLexemes.{text_spellable}
 
 -- a pipeline of which no token goes past the limit is within the limit
 short_by : (ts : List Lexeme) (p : List Statement) (r : Result (List Statement) Refusal) → IsPipeline ts p → ((at : ℕ) → IsTooLong ts at → ⊥) → IsTrueOf ts r → IsShortPipeline ts p
@@ -59,3 +60,18 @@ one_text ts us g h same =
 
 pub texts_apart : (v w : List Lexeme) (p q : List Statement) → list_all is_spellable v ≡ true → list_all is_spellable w ≡ true → IsPipeline v p → IsPipeline w q → print_text p ≡ print_text q → p ≡ q
 texts_apart v w p q s t g h same = prints_apart v w p q g h (one_text (print p) (print q) (print_spellable v p s g) (print_spellable w q t h) same)
+
+-- ---- the same of texts
+
+read_spellable : (text : Text) (p : List Statement) → (h : IsRead text p) → list_all is_spellable (lexemes_of text h.found) ≡ true
+read_spellable text p h = text_spellable text h.found h.scanned
+
+read_wide : (text : Text) (p : List Statement) → (h : IsRead text p) → IsPipeline (lexemes_of text h.found) p
+read_wide text p h = wide (lexemes_of text h.found) p h.derived
+
+pub read_again : (text : Text) (p : List Statement) → IsRead text p → IsWithinLimits (print_text p) → IsRead (print_text p) p
+read_again text p h within = print_reads (lexemes_of text h.found) p (read_spellable text p h) (read_wide text p h) within
+
+pub readings_apart : (text other : Text) (p q : List Statement) → IsRead text p → IsRead other q → print_text p ≡ print_text q → p ≡ q
+readings_apart text other p q g h same =
+    texts_apart (lexemes_of text g.found) (lexemes_of other h.found) p q (read_spellable text p g) (read_spellable other q h) (read_wide text p g) (read_wide other q h) same

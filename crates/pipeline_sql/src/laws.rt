@@ -28,3 +28,10 @@ pub fn equal_prints_have_equal_statements()
     ensures { (v w : List Lexeme) (p q : List Statement) → list_all is_spellable v ≡ true → list_all is_spellable w ≡ true
         → IsPipeline v p → IsPipeline w q → print_text p ≡ print_text q → p ≡ q }
 {}
+
+/// What is read of a text is the one reading of its canonical print, where that is within the limits of a text; and texts
+/// of which different statements are read have different prints, whatever their length.
+pub fn a_reading_has_one_print()
+    ensures back { (text : Text) (p : List Statement) → IsRead text p → IsWithinLimits (print_text p) → IsRead (print_text p) p }
+    ensures apart { (text other : Text) (p q : List Statement) → IsRead text p → IsRead other q → print_text p ≡ print_text q → p ≡ q }
+{}

@@ -4,7 +4,10 @@
 mod laws;
 mod reader;
 
-pub use laws::{a_text_has_one_answer, equal_prints_have_equal_statements, print_reads_back};
+pub use laws::{
+    a_reading_has_one_print, a_text_has_one_answer, equal_prints_have_equal_statements,
+    print_reads_back,
+};
 pub use reader::read;
 
 #[cfg(test)]
