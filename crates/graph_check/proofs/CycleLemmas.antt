@@ -1,11 +1,11 @@
 -- The trail to a cycle, and the path that is cut from it.
-use Rattle.std.proofs.Common.{◌≡◌, ◌≢◌, ℕ, zero, suc, ◌+◌, ◌-◌, ◌<◌, ◌≤◌, List, [], ◌∷◌, ◌++◌, length, get_or, take, drop, refl, sym, ◌∙◌, ap, subst, inl, inr, arith, append_assoc}
+use Rattle.std.proofs.Common.{◌≡◌, ◌≢◌, ℕ, ◌+◌, ◌<◌, ◌≤◌, List, [], ◌∷◌, ◌++◌, length, get_or, take, drop, refl, sym, ◌∙◌, ap, subst, inl, inr, arith, append_assoc}
 use Rattle.std.specs.List.{All, AllPairs}
 use Rattle.std.proofs.lemmas.List.{get_or_default, get_or_append_left, get_or_push, length_push, drop_more, take_all, take-append-drop}
-use Rattle.std.proofs.lemmas.List.Elements.{All-push, All-nil, All-get_or, All-more}
+use Rattle.std.proofs.lemmas.List.Elements.{All-push, All-nil, All-more}
 use Rattle.std.proofs.lemmas.List.Quantifiers.{all_pairs_push}
 use Rattle.std.proofs.lemmas.Bool.{cases_eq}
-use Rattle.graph_check.specs.Graphs.{AreWithin, Reads}
+use Rattle.graph_check.specs.Graphs.{AreWithin}
 use Rattle.graph_check.specs.Levels.{HasLevel, above_sources}
 use Rattle.graph_check.specs.Paths.{IsNext, IsLeastWithout, IsTrail, IsCyclePath}
 use Rattle.graph_check.specs.Rounds.{ShowLevels}

@@ -1,12 +1,13 @@
 -- Marks that spread from sources to readers.
-use Rattle.std.proofs.Common.{◌≡◌, ◌≢◌, ℕ, zero, suc, ◌+◌, ◌<◌, ◌≤◌, ◌⊎◌, ◌↔◌, Bool, true, false, not, cond, List, [], ◌∷◌, ◌++◌, length, get_or, set, replicate, refl, sym, ◌∙◌, ap, subst, inl, inr, arith}
+use Rattle.std.proofs.Common.{◌≡◌, ℕ, zero, suc, ◌+◌, ◌<◌, ◌≤◌, ◌↔◌, Bool, true, false, not, cond, List, [], ◌∷◌, ◌++◌, length, take, drop, get_or, set, replicate, refl, sym, ◌∙◌, ap, subst, inl, inr, arith}
+use Rattle.std.proofs.Math.Seq.{take-append_seam}
 use Rattle.std.specs.List.{All, Contains, count_by}
 use Rattle.std.specs.List.Sorted.{IsStrictlyIncreasing}
-use Rattle.std.proofs.lemmas.List.{get_or_default, get_or_past, get_or_append_left, get_or_push, length_push, length-set}
-use Rattle.std.proofs.lemmas.List.Elements.{All-push, All-contains, All-get_or, All-weaker, Contains-get_or, Contains-append_left, Contains-push}
+use Rattle.std.proofs.lemmas.List.{get_or_default, get_or_append_left, get_or_push, length_push, length-set}
+use Rattle.std.proofs.lemmas.List.Elements.{All-push, All-contains, All-weaker, Contains-get_or, Contains-append_left, Contains-push}
 use Rattle.std.proofs.lemmas.List.Sums.{sum_by-set}
-use Rattle.std.specs.Bool.{OnTrue, OnFalse}
-use Rattle.std.proofs.lemmas.Bool.{cases_eq, cases_Bool, OnTrue_at, OnFalse_at, OnFalse_from}
+use Rattle.std.specs.Bool.{OnFalse}
+use Rattle.std.proofs.lemmas.Bool.{cases_eq, cases_Bool, OnFalse_from}
 use Rattle.graph_check.specs.Graphs.{AreWithin, Reads, Walk, IsInClosure}
 use Rattle.graph_check.specs.Marks.{IsMarked, MarksReaders, LeadsToMarked}
 use Rattle.graph_check.proofs.RoundLemmas.{set_cases}
@@ -226,3 +227,7 @@ marked_along edges marks closed (suc steps) from to walk marked = closed from wa
 pub closure_all : (count : ℕ) (edges : List (ℕ × ℕ)) (nodes : List ℕ) (marks : List Bool) (places : List ℕ) → MarksReaders edges marks → AreOfClosure count edges nodes marks → ((node : ℕ) → Contains places node ↔ IsMarked marks node) → (node : ℕ) → Contains places node ↔ IsInClosure edges nodes node
 closure_all count edges nodes marks places closed before places_are node =
     (λ there. before.only node ((places_are node).0 there), λ is. (places_are node).1 (marked_along edges marks closed is.2.0 node is.0 is.2.1 (before.all is.0 is.1)))
+
+-- a list that is written through a vector's slice
+pub written : (old new : List Bool) (size : ℕ) → size ≡ length new → take size (new ++ drop (length new) old) ≡ new
+written old new size is = ap (λ n. take n (new ++ drop (length new) old)) is ∙ take-append_seam new (drop (length new) old)

@@ -1,10 +1,9 @@
 -- What a round does to the heights, and what all rounds tell.
 use Rattle.std.proofs.Common.{◌≡◌, ◌≢◌, ℕ, zero, suc, ◌+◌, ◌<◌, ◌≤◌, ◌⊎◌, List, [], ◌∷◌, length, get_or, set, replicate, refl, sym, ◌∙◌, ap, subst, inl, inr, arith, add-one}
-use Rattle.std.specs.List.{All}
 use Rattle.std.proofs.lemmas.List.{get_or_default, length-set}
 use Rattle.std.proofs.lemmas.Bool.{cases_eq, cases_lt}
 use Rattle.graph_check.specs.Graphs.{AreWithin, Reads, Walk, IsCyclic}
-use Rattle.graph_check.specs.Levels.{HasLevel, IsLevelOf, AreLevels}
+use Rattle.graph_check.specs.Levels.{HasLevel, AreLevels}
 use Rattle.graph_check.specs.Paths.{IsLeastWithout}
 use Rattle.graph_check.specs.Rounds.{IsHeight, AreAtRound, ShowLevels}
 use Rattle.graph_check.proofs.WalkLemmas.{reads_within, walk_front, cycle_without, level_below, leads_to_cycle, leads_without}

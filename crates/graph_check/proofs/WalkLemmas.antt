@@ -8,7 +8,7 @@ use Rattle.std.proofs.lemmas.Map.Steps.{length-le_from_distinct_below}
 use Rattle.std.proofs.lemmas.Map.Views.{Contains-from_any}
 use Rattle.std.proofs.lemmas.Bool.Decides.{Decides-eqb}
 use Rattle.std.proofs.lemmas.Bool.{cases_eq}
-use Rattle.graph_check.specs.Graphs.{AreWithin, Reads, Walk, IsCyclic}
+use Rattle.graph_check.specs.Graphs.{AreWithin, Reads, Walk}
 use Rattle.graph_check.specs.Levels.{HasLevel, above_sources}
 
 -- both ends of an edge are nodes

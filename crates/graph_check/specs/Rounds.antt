@@ -1,5 +1,5 @@
 -- What so many rounds tell of the levels of a graph.
-use Rattle.std.specs.Prelude.{◌≡◌, ◌≢◌, ℕ, ◌+◌, ◌<◌, ◌≤◌, List, length, slice_index}
+use Rattle.std.specs.Prelude.{◌≡◌, ◌≢◌, ℕ, ◌<◌, ◌≤◌, List, length, slice_index}
 use Rattle.graph_check.specs.Graphs.{Walk}
 use Rattle.graph_check.specs.Levels.{HasLevel}
 

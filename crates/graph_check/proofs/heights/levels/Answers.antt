@@ -7,7 +7,7 @@ use Rattle.graph_check.proofs.heights.levels.Goals as goal
 
 pub loop-round-init : goal.loop-round-init
 loop-round-init c =
-    let made : c.in_ok-heights.heights.items ≡ replicate c.args.count 0 = first_of (c.in_ok-heights.ensures.items_if_clones_equal (λ y e. e), search rules) in
+    let made : c.in_ok-heights.heights.items ≡ replicate c.args.count 0 = search rules in
     record {
       complete = ap length made ∙ length-replicate c.args.count 0;
       before = subst (λ xs. AreAtRound c.args.edges.now 0 xs) (sym made) (at_first c.args.edges.now c.args.count);

@@ -1,0 +1,4 @@
+pub mod CodeLemmas
+pub mod RunLemmas
+pub mod ScanLemmas
+pub mod StandLemmas
