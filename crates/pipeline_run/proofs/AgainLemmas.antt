@@ -1,14 +1,12 @@
 -- An update that has succeeded leaves nothing to refuse.
-use Rattle.std.proofs.Common.{◌≡◌, ◌≢◌, ◌⊎◌, inl, inr, ℕ, ◌<◌, ◌≤◌, List, [], ◌∷◌, ◌++◌, refl, sym, ap, subst, ◌∙◌, Bool, true, false, Option, Some, None, arith}
+use Rattle.std.proofs.Common.{◌≡◌, ◌≢◌, inl, inr, ℕ, List, [], ◌∷◌, refl, sym, ap, subst, ◌∙◌, Bool, true, false, Option, Some, None, arith}
 use Rattle.value_core.specs.declared.cursor.FilePlace.{FilePlace}
 use Rattle.value_core.specs.Bags.{in_row_order}
 use Rattle.landing_core.specs.declared.landing.LandingFile.{LandingFile}
 use Rattle.landing_core.proofs.EntryLemmas.{listing_ascending}
-use Rattle.commit_records.specs.declared.definition.Definition.{Definition}
 use Rattle.commit_records.specs.declared.payload.Payload.{Payload}
 use Rattle.store_state.specs.State.{Dataset, State, empty_state, after_payload, state_from, definitions_of}
 use Rattle.store_core.specs.Reach.{EndsAt, IsLogEnd}
-use Rattle.store_core.specs.State.{HasState, IsBegun}
 use Rattle.store_core.proofs.SparedLemmas.{log_spared}
 use Rattle.table_update.specs.declared.end.UpdateEnd.{UpdateEnd}
 use Rattle.table_update.specs.declared.end.UpdateEnd.TheVariants.{Current, Completed}

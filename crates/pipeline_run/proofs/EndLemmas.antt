@@ -27,7 +27,7 @@ use Rattle.pipeline_run.specs.declared.outcome.Status.TheVariants as status
 use Rattle.pipeline_run.specs.Ends.{NothingFailed, RanWell, SameFile, SameEnd, NothingRefused, HasShrunk, AreValidates, HaveUpdate}
 use Rattle.pipeline_run.specs.Pipeline.{text_limit, HasStatements, HasPlan, IsBroken}
 use Rattle.pipeline_run.specs.Report.{status_of, status_of_end}
-use Rattle.pipeline_run.specs.Run.{Around, found_by, Counts, NoneFalls, Standing, IsIdle, IsUpdate, Comes, Blames, BlamesOf, IsTold, Tells, Executes, Runs, Refuses, Ran}
+use Rattle.pipeline_run.specs.Run.{Around, found_by, Counts, NoneFalls, RunState, IsIdle, IsUpdate, ComesTo, Blames, BlamesOf, IsTold, Tells, Executes, Runs, Refuses, Ran}
 use Rattle.pipeline_run.specs.Table.{name_of, plan_of, AsksFor}
 use Rattle.pipeline_run.specs.Update.{Ended, EndsWith, tried_by}
 use Rattle.pipeline_run.proofs.AgainLemmas.{nothing_after}
@@ -211,7 +211,7 @@ record HasWay (command : Command) (around : Around) (outcome : Outcome) (updates
   is : IsWay around.text way
   goes : Goes command around way outcome updates before after
 
-way_of : (command : Command) (around : Around) (outcome : Outcome) (updates : List Ended) (before after : List ℕ) → IsBlameless outcome → Comes command around outcome updates before after → HasWay command around outcome updates before after
+way_of : (command : Command) (around : Around) (outcome : Outcome) (updates : List Ended) (before after : List ℕ) → IsBlameless outcome → ComesTo command around outcome updates before after → HasWay command around outcome updates before after
 way_of Validate around Usage updates before after fine comes = absurd comes
 way_of Validate around TextFailed updates before after fine comes = absurd fine
 way_of Validate around (Refused refusal) updates before after fine comes = record { way = RefusedText refusal; is = comes.0; goes = (refl, comes.1) }
@@ -261,7 +261,7 @@ rose-later a b c le rose = omega (arith, le, rose)
 rose-earlier : (a b c : ℕ) → a ≤ b → Rose b c → Rose a c
 rose-earlier a b c le rose = omega (arith, le, rose)
 
-first_part : (old mid new : Standing) → NothingFailed old new → NoneFalls mid.faults new.faults → NothingFailed old mid
+first_part : (old mid new : RunState) → NothingFailed old new → NoneFalls mid.faults new.faults → NothingFailed old mid
 first_part old mid new fine later = record {
   text = λ r. fine.text (rose-later old.faults.text mid.faults.text new.faults.text later.text r);
   disk = λ r. fine.disk (rose-later old.faults.disk mid.faults.disk new.faults.disk later.disk r);
@@ -269,7 +269,7 @@ first_part old mid new fine later = record {
   sink = λ r. fine.sink (rose-later old.faults.sink mid.faults.sink new.faults.sink later.sink r);
 }
 
-last_part : (old mid new : Standing) → NothingFailed old new → NoneFalls old.faults mid.faults → NothingFailed mid new
+last_part : (old mid new : RunState) → NothingFailed old new → NoneFalls old.faults mid.faults → NothingFailed mid new
 last_part old mid new fine later = record {
   text = λ r. fine.text (rose-earlier old.faults.text mid.faults.text new.faults.text later.text r);
   disk = λ r. fine.disk (rose-earlier old.faults.disk mid.faults.disk new.faults.disk later.disk r);
@@ -277,7 +277,7 @@ last_part old mid new fine later = record {
   sink = λ r. fine.sink (rose-earlier old.faults.sink mid.faults.sink new.faults.sink later.sink r);
 }
 
-executes-later : (first : Command) (around : Around) (given : Status) (updates : List Ended) (old mid : Standing) → Executes first around given updates old mid → NoneFalls old.faults mid.faults
+executes-later : (first : Command) (around : Around) (given : Status) (updates : List Ended) (old mid : RunState) → Executes first around given updates old mid → NoneFalls old.faults mid.faults
 executes-later first around given updates old mid (inl does) = does.1.later
 executes-later first around given updates old mid (inr out) = out.0.later
 
@@ -287,20 +287,20 @@ none-falls a b c p q = record { text = omega (arith, p.text, q.text); disk = ome
 same-falls : (a : Counts) → NoneFalls a a
 same-falls a = record { text = omega arith; disk = omega arith; landing = omega arith; sink = omega arith }
 
-runs-later : (around : Around) (commands : List Command) (answer : Status) (updates : List Ended) (old new : Standing) → Runs around commands answer updates old new → NoneFalls old.faults new.faults
-runs-later around [] answer updates old new runs = subst (λ (s : Standing). NoneFalls old.faults s.faults) (sym runs.2) (same-falls old.faults)
+runs-later : (around : Around) (commands : List Command) (answer : Status) (updates : List Ended) (old new : RunState) → Runs around commands answer updates old new → NoneFalls old.faults new.faults
+runs-later around [] answer updates old new runs = subst (λ (s : RunState). NoneFalls old.faults s.faults) (sym runs.2) (same-falls old.faults)
 runs-later around (first ∷ others) answer updates old new (mid, given, own, rest, parts, executes, inl more) =
     none-falls old.faults mid.faults new.faults (executes-later first around given own old mid executes) (runs-later around others answer rest mid new more.1)
 runs-later around (first ∷ others) answer updates old new (mid, given, own, rest, parts, executes, inr end) =
-    subst (λ (s : Standing). NoneFalls old.faults s.faults) (sym end.3) (executes-later first around given own old mid executes)
+    subst (λ (s : RunState). NoneFalls old.faults s.faults) (sym end.3) (executes-later first around given own old mid executes)
 
 -- ---- what was told
 
-told : (outcome : Outcome) (answer : Status) (old new : Standing) → Tells outcome answer old new → NothingFailed old new → answer ≢ status.Memory → IsTold outcome answer old new
+told : (outcome : Outcome) (answer : Status) (old new : RunState) → Tells outcome answer old new → NothingFailed old new → answer ≢ status.Memory → IsTold outcome answer old new
 told outcome answer old new (inl is) fine ne = is
 told outcome answer old new (inr cut) fine ne = absurd (elim cut.status [ inl sink ↦ fine.sink sink.1 | inr memory ↦ ne memory ])
 
-same_told : (outcome other : Outcome) (answer also : Status) (updates others : List Ended) (old was new far : Standing) → SameOutcome outcome other updates others new.file far.file → old.printed ≡ was.printed
+same_told : (outcome other : Outcome) (answer also : Status) (updates others : List Ended) (old was new far : RunState) → SameOutcome outcome other updates others new.file far.file → old.printed ≡ was.printed
     → IsTold outcome answer old new → IsTold other also was far → SameEnd answer also updates others new far
 same_told outcome other answer also updates others old was new far same was_same p q =
     let outcomes = same.outcomes in
@@ -308,14 +308,14 @@ same_told outcome other answer also updates others old was new far same was_same
 
 -- ---- commands
 
-own_end : (end : UpdateEnd) (old new : Standing) → NothingFailed old new → BlamesOf old.faults new.faults end → (status_of_end end ≡ status.Memory → ⊥) → IsOwn end
+own_end : (end : UpdateEnd) (old new : RunState) → NothingFailed old new → BlamesOf old.faults new.faults end → (status_of_end end ≡ status.Memory → ⊥) → IsOwn end
 own_end ends.LoadFailed old new fine blames ne = fine.disk blames
 own_end ends.CommitFailed old new fine blames ne = fine.disk blames
 own_end ends.LandingFailed old new fine blames ne = fine.landing blames
 own_end ends.Memory old new fine blames ne = ne refl
 own_end _ old new fine blames ne = tt
 
-blameless : (outcome : Outcome) (old new : Standing) → NothingFailed old new → Blames old.faults new.faults outcome → (status_of outcome ≡ status.Memory → ⊥) → IsBlameless outcome
+blameless : (outcome : Outcome) (old new : RunState) → NothingFailed old new → Blames old.faults new.faults outcome → (status_of outcome ≡ status.Memory → ⊥) → IsBlameless outcome
 blameless TextFailed old new fine blames ne = fine.text blames
 blameless (Updated table end) old new fine blames ne = own_end end old new fine blames ne
 blameless Usage old new fine blames ne = tt
@@ -324,12 +324,12 @@ blameless (Broken statement fault) old new fine blames ne = tt
 blameless (Valid plan) old new fine blames ne = tt
 
 -- the way of a command that was told
-gone : (first : Command) (around : Around) (given : Status) (updates : List Ended) (outcome : Outcome) (old mid : Standing) → NothingFailed old mid → given ≢ status.Memory → IsTold outcome given old mid → Blames old.faults mid.faults outcome
-    → Comes first around outcome updates old.file mid.file → HasWay first around outcome updates old.file mid.file
+gone : (first : Command) (around : Around) (given : Status) (updates : List Ended) (outcome : Outcome) (old mid : RunState) → NothingFailed old mid → given ≢ status.Memory → IsTold outcome given old mid → Blames old.faults mid.faults outcome
+    → ComesTo first around outcome updates old.file mid.file → HasWay first around outcome updates old.file mid.file
 gone first around given updates outcome old mid fine ne is blames comes =
     way_of first around outcome updates old.file mid.file (blameless outcome old mid fine blames (λ memory. ne (is.status ∙ memory))) comes
 
-same_command : HasOneAnswer → HasOneEnd → (first : Command) (around : Around) (given also : Status) (updates others : List Ended) (old was mid far : Standing) → SameFile old.file was.file → old.printed ≡ was.printed
+same_command : HasOneAnswer → HasOneEnd → (first : Command) (around : Around) (given also : Status) (updates others : List Ended) (old was mid far : RunState) → SameFile old.file was.file → old.printed ≡ was.printed
     → NothingFailed old mid → NothingFailed was far → given ≢ status.Memory → also ≢ status.Memory
     → Executes first around given updates old mid → Executes first around also others was far → SameEnd given also updates others mid far
 same_command law one first around given also updates others old was mid far files prints fine fine_too ne ne_too (inr out) other = absurd (ne out.0.status)
@@ -349,15 +349,15 @@ both_tried : (updates own more others own_too more_too : List Ended) → updates
 both_tried updates own more others own_too more_too parts parts_too first second =
     ap tried_by parts ∙ tried_by_both own more ∙ ap (λ (front : List Payload). front ++ tried_by more) first ∙ ap (λ (behind : List Payload). tried_by own_too ++ behind) second ∙ sym (tried_by_both own_too more_too) ∙ sym (ap tried_by parts_too)
 
-same_runs : HasOneAnswer → HasOneEnd → (around : Around) (commands : List Command) (answer other : Status) (updates others : List Ended) (old was new also : Standing) → SameFile old.file was.file → old.printed ≡ was.printed
+same_runs : HasOneAnswer → HasOneEnd → (around : Around) (commands : List Command) (answer other : Status) (updates others : List Ended) (old was new also : RunState) → SameFile old.file was.file → old.printed ≡ was.printed
     → NothingFailed old new → NothingFailed was also → answer ≢ status.Memory → other ≢ status.Memory
     → Runs around commands answer updates old new → Runs around commands other others was also → SameEnd answer other updates others new also
 same_runs law one around [] answer other updates others old was new also files prints fine fine_too ne ne_too p q =
     record {
       answers = p.0 ∙ sym q.0;
-      printed = ap (λ (s : Standing). s.printed) p.2 ∙ prints ∙ sym (ap (λ (s : Standing). s.printed) q.2);
+      printed = ap (λ (s : RunState). s.printed) p.2 ∙ prints ∙ sym (ap (λ (s : RunState). s.printed) q.2);
       tried = ap tried_by p.1 ∙ sym (ap tried_by q.1);
-      files = λ ok. subst (λ (s : Standing). SameFile s.file also.file) (sym p.2) (subst (λ (s : Standing). SameFile old.file s.file) (sym q.2) files);
+      files = λ ok. subst (λ (s : RunState). SameFile s.file also.file) (sym p.2) (subst (λ (s : RunState). SameFile old.file s.file) (sym q.2) files);
     }
 same_runs law one around (first ∷ rest) answer other updates others old was new also files prints fine fine_too ne ne_too (mid, given, own, tail, parts, e, inl more) (far, given_too, own_too, tail_too, parts_too, e_too, inl more_too) =
     let step = same_command law one first around given given_too own own_too old was mid far files prints
@@ -383,20 +383,20 @@ same_runs law one around (first ∷ rest) answer other updates others old was ne
     (λ m. ne (end.1 ∙ m)) (λ m. ne_too (end_too.1 ∙ m)) e e_too in
     record {
       answers = end.1 ∙ (step.answers ∙ sym end_too.1);
-      printed = ap (λ (s : Standing). s.printed) end.3 ∙ (step.printed ∙ ap (λ (s : Standing). s.printed) (sym end_too.3));
+      printed = ap (λ (s : RunState). s.printed) end.3 ∙ (step.printed ∙ ap (λ (s : RunState). s.printed) (sym end_too.3));
       tried = both_tried updates own tail others own_too tail_too parts parts_too step.tried (ap tried_by end.2 ∙ sym (ap tried_by end_too.2));
       files = λ ok. absurd (end.0 (sym end.1 ∙ ok));
     }
 
 -- ---- whole runs
 
-same_refusal : (answer other : Status) (updates others : List Ended) (old new also : Standing) → NothingFailed old new → NothingFailed old also → answer ≢ status.Memory → other ≢ status.Memory
+same_refusal : (answer other : Status) (updates others : List Ended) (old new also : RunState) → NothingFailed old new → NothingFailed old also → answer ≢ status.Memory → other ≢ status.Memory
     → Refuses Usage answer old new → updates ≡ [] → Refuses Usage other old also → others ≡ [] → SameEnd answer other updates others new also
 same_refusal answer other updates others old new also fine fine_too ne ne_too p none q none_too =
     same_told Usage Usage answer other updates others old old new also (same_idle Usage Usage updates others old.file old.file new.file also.file refl (inl refl) (none, p.file) (none_too, q.file)) refl
     (told Usage answer old new p.tells fine ne) (told Usage other old also q.tells fine_too ne_too)
 
-same_ran : HasOneAnswer → HasOneEnd → (asked : Option (List Command)) (around : Around) (answer other : Status) (updates others : List Ended) (old new also : Standing) → NothingFailed old new → NothingFailed old also
+same_ran : HasOneAnswer → HasOneEnd → (asked : Option (List Command)) (around : Around) (answer other : Status) (updates others : List Ended) (old new also : RunState) → NothingFailed old new → NothingFailed old also
     → answer ≢ status.Memory → other ≢ status.Memory → Ran asked around answer updates old new → Ran asked around other others old also → SameEnd answer other updates others new also
 same_ran law one None around answer other updates others old new also fine fine_too ne ne_too (inl p, none) (inl q, none_too) = same_refusal answer other updates others old new also fine fine_too ne ne_too p none q none_too
 same_ran law one None around answer other updates others old new also fine fine_too ne ne_too (inr out, none) q = absurd (ne out.status)
@@ -406,7 +406,7 @@ same_ran law one (Some commands) around answer other updates others old new also
 same_ran law one (Some commands) around answer other updates others old new also fine fine_too ne ne_too (inr p) (inr q) =
     same_runs law one around commands answer other updates others old old new also (inl refl) refl fine fine_too ne ne_too p q
 
-pub one_end : HasOneAnswer → HasOneEnd → (asked : Option (List Command)) (around : Around) (answer other : Status) (updates others : List Ended) (old new also : Standing) → RanWell asked around answer updates old new → RanWell asked around other others old also
+pub one_end : HasOneAnswer → HasOneEnd → (asked : Option (List Command)) (around : Around) (answer other : Status) (updates others : List Ended) (old new also : RunState) → RanWell asked around answer updates old new → RanWell asked around other others old also
     → SameEnd answer other updates others new also
 one_end law one asked around answer other updates others old new also p q = same_ran law one asked around answer other updates others old new also p.fine q.fine p.memory q.memory p.ran q.ran
 
@@ -434,7 +434,7 @@ ok_of_update_way law succeeds around file after updates given outcome none has e
     let same : has.way ≡ PlanText (plan_of none.plan) = one_way law around.text has.way (PlanText (plan_of none.plan)) has.is none.checks in
     e ∙ ok_of_goes_on succeeds around file after updates outcome none.plan none.takes (subst (λ (way : Way). Goes Update around way outcome updates file after) same has.goes)
 
-ok_of_update : HasOneAnswer → Succeeds → (around : Around) (updates : List Ended) (old mid : Standing) (given : Status) → NothingRefused around old.file → NothingFailed old mid → given ≢ status.Memory → Executes Update around given updates old mid → given ≡ status.Ok
+ok_of_update : HasOneAnswer → Succeeds → (around : Around) (updates : List Ended) (old mid : RunState) (given : Status) → NothingRefused around old.file → NothingFailed old mid → given ≢ status.Memory → Executes Update around given updates old mid → given ≡ status.Ok
 ok_of_update law succeeds around updates old mid given none fine ne (inr out) = absurd (ne out.0.status)
 ok_of_update law succeeds around updates old mid given none fine ne (inl (outcome, does)) =
     let is = told outcome given old mid does.tells fine ne in
@@ -448,7 +448,7 @@ ok_of_validate_way law around file after updates plan given outcome has way e =
     let goes : Goes Validate around (PlanText plan) outcome updates file after = subst (λ (each : Way). Goes Validate around each outcome updates file after) same way.goes in
     e ∙ ap status_of goes.0
 
-ok_of_validate : HasOneAnswer → (around : Around) (updates : List Ended) (old mid : Standing) (plan : List Dataset) (given : Status) → HasPlan around.text plan → NothingFailed old mid → given ≢ status.Memory → Executes Validate around given updates old mid
+ok_of_validate : HasOneAnswer → (around : Around) (updates : List Ended) (old mid : RunState) (plan : List Dataset) (given : Status) → HasPlan around.text plan → NothingFailed old mid → given ≢ status.Memory → Executes Validate around given updates old mid
     → given ≡ status.Ok
 ok_of_validate law around updates old mid plan given has fine ne (inr out) = absurd (ne out.0.status)
 ok_of_validate law around updates old mid plan given has fine ne (inl (outcome, does)) =
@@ -461,14 +461,14 @@ kept_by_goes around file after updates outcome (RefusedText r) is = is.1.1
 kept_by_goes around file after updates outcome (BrokenText n f) is = is.1.1
 kept_by_goes around file after updates outcome (PlanText plan) is = is.1.1
 
-kept_by_validate : (around : Around) (updates : List Ended) (old mid : Standing) (given : Status) → NothingFailed old mid → given ≢ status.Memory → Executes Validate around given updates old mid → mid.file ≡ old.file
+kept_by_validate : (around : Around) (updates : List Ended) (old mid : RunState) (given : Status) → NothingFailed old mid → given ≢ status.Memory → Executes Validate around given updates old mid → mid.file ≡ old.file
 kept_by_validate around updates old mid given fine ne (inr out) = out.0.file
 kept_by_validate around updates old mid given fine ne (inl (outcome, does)) =
     let is = told outcome given old mid does.tells fine ne in
     let way = gone Validate around given updates outcome old mid fine ne is does.blames does.comes in
     kept_by_goes around old.file mid.file updates outcome way.way way.goes
 
-ok_of_validates : HasOneAnswer → (commands : List Command) (around : Around) (answer : Status) (updates : List Ended) (old new : Standing) (plan : List Dataset) → AreValidates commands → HasPlan around.text plan → NothingFailed old new
+ok_of_validates : HasOneAnswer → (commands : List Command) (around : Around) (answer : Status) (updates : List Ended) (old new : RunState) (plan : List Dataset) → AreValidates commands → HasPlan around.text plan → NothingFailed old new
     → answer ≢ status.Memory → Runs around commands answer updates old new → answer ≡ status.Ok
 ok_of_validates law [] around answer updates old new plan are has fine ne runs = runs.0
 ok_of_validates law (Update ∷ others) around answer updates old new plan are has fine ne runs = absurd are
@@ -491,7 +491,7 @@ left_by_goes_on around plan file after updates given outcome ok e on =
     let well : status_of_end on.end ≡ status.Ok = sym (ap status_of on.is) ∙ sym e ∙ ok in
     subst (λ (given : Option AppendTable). tables.NothingRefused given (found_by around after)) same (left_by around on.plan on.end updates file after well on.update)
 
-left_by_update : HasOneAnswer → (around : Around) (updates : List Ended) (old mid : Standing) (given : Status) → NothingRefused around old.file → NothingFailed old mid → given ≡ status.Ok → Executes Update around given updates old mid → NothingRefused around mid.file
+left_by_update : HasOneAnswer → (around : Around) (updates : List Ended) (old mid : RunState) (given : Status) → NothingRefused around old.file → NothingFailed old mid → given ≡ status.Ok → Executes Update around given updates old mid → NothingRefused around mid.file
 left_by_update law around updates old mid given none fine ok (inr out) = absurd (is_ok given ok out.0.status)
 left_by_update law around updates old mid given none fine ok (inl (outcome, does)) =
     let is = told outcome given old mid does.tells fine (is_ok given ok) in
@@ -505,7 +505,7 @@ left_by_update law around updates old mid given none fine ok (inl (outcome, does
 
 -- ---- commands in order
 
-ok_of_all : HasOneAnswer → Succeeds → (commands : List Command) (around : Around) (answer : Status) (updates : List Ended) (old new : Standing) → NothingRefused around old.file → NothingFailed old new → answer ≢ status.Memory
+ok_of_all : HasOneAnswer → Succeeds → (commands : List Command) (around : Around) (answer : Status) (updates : List Ended) (old new : RunState) → NothingRefused around old.file → NothingFailed old new → answer ≢ status.Memory
     → Runs around commands answer updates old new → answer ≡ status.Ok
 ok_of_all law succeeds [] around answer updates old new none fine ne runs = runs.0
 ok_of_all law succeeds (Validate ∷ others) around answer updates old new none fine ne (mid, given, own, tail, parts, executes, inl more) =
@@ -524,7 +524,7 @@ or_memory : (answer : Status) → (answer ≢ status.Memory → answer ≡ statu
 or_memory status.Memory well = inr refl
 or_memory _ well = inl (well (λ is. cc))
 
-pub ok_where_nothing_is_refused : HasOneAnswer → Succeeds → (commands : List Command) (around : Around) (answer : Status) (updates : List Ended) (old new : Standing) → Ran (Some commands) around answer updates old new → NothingFailed old new
+pub ok_where_nothing_is_refused : HasOneAnswer → Succeeds → (commands : List Command) (around : Around) (answer : Status) (updates : List Ended) (old new : RunState) → Ran (Some commands) around answer updates old new → NothingFailed old new
     → NothingRefused around old.file → (answer ≡ status.Ok) ⊎ (answer ≡ status.Memory)
 ok_where_nothing_is_refused law succeeds commands around answer updates old new (inl out) fine none = inr out.0.status
 ok_where_nothing_is_refused law succeeds commands around answer updates old new (inr runs) fine none =
@@ -543,7 +543,7 @@ stops_goes_on state around file after updates outcome has on =
     let same : on.plan ≡ Some has.table = one_asked on.plan (Some has.table) (sym on.of_plan) in
     ap status_of on.is ∙ stops_ended state around file after on.end updates has on.own (subst (λ (given : Option AppendTable). IsUpdate given around on.end updates file after) same on.update)
 
-stopped_by_update : HasOneAnswer → HasOneState → (around : Around) (updates : List Ended) (old mid : Standing) (given : Status) → HasShrunk around old.file → NothingFailed old mid → given ≢ status.Memory → Executes Update around given updates old mid → given ≡ status.Stopped
+stopped_by_update : HasOneAnswer → HasOneState → (around : Around) (updates : List Ended) (old mid : RunState) (given : Status) → HasShrunk around old.file → NothingFailed old mid → given ≢ status.Memory → Executes Update around given updates old mid → given ≡ status.Stopped
 stopped_by_update law state around updates old mid given has fine ne (inr out) = absurd (ne out.0.status)
 stopped_by_update law state around updates old mid given has fine ne (inl (outcome, does)) =
     let is = told outcome given old mid does.tells fine ne in
@@ -551,7 +551,7 @@ stopped_by_update law state around updates old mid given has fine ne (inl (outco
     let same : way.way ≡ PlanText (plan_of (Some has.table)) = one_way law around.text way.way (PlanText (plan_of (Some has.table))) way.is has.checks in
     is.status ∙ stops_goes_on state around old.file mid.file updates outcome has (subst (λ (each : Way). Goes Update around each outcome updates old.file mid.file) same way.goes)
 
-stopped_by_all : HasOneAnswer → HasOneState → (commands : List Command) (around : Around) (answer : Status) (updates : List Ended) (old new : Standing) → HaveUpdate commands → HasShrunk around old.file → NothingFailed old new → answer ≢ status.Memory
+stopped_by_all : HasOneAnswer → HasOneState → (commands : List Command) (around : Around) (answer : Status) (updates : List Ended) (old new : RunState) → HaveUpdate commands → HasShrunk around old.file → NothingFailed old new → answer ≢ status.Memory
     → Runs around commands answer updates old new → answer ≡ status.Stopped
 stopped_by_all law state [] around answer updates old new have has fine ne runs = absurd have
 stopped_by_all law state (Validate ∷ others) around answer updates old new have has fine ne (mid, given, own, tail, parts, executes, inl more) =
@@ -570,13 +570,13 @@ stopped_or : (answer : Status) → (answer ≢ status.Memory → answer ≡ stat
 stopped_or status.Memory stopped = inr refl
 stopped_or _ stopped = inl (stopped (λ is. cc))
 
-pub stopped_where_a_file_shrank : HasOneAnswer → HasOneState → (commands : List Command) (around : Around) (answer : Status) (updates : List Ended) (old new : Standing) → HaveUpdate commands → Ran (Some commands) around answer updates old new → NothingFailed old new
+pub stopped_where_a_file_shrank : HasOneAnswer → HasOneState → (commands : List Command) (around : Around) (answer : Status) (updates : List Ended) (old new : RunState) → HaveUpdate commands → Ran (Some commands) around answer updates old new → NothingFailed old new
     → HasShrunk around old.file → (answer ≡ status.Stopped) ⊎ (answer ≡ status.Memory)
 stopped_where_a_file_shrank law state commands around answer updates old new have (inl out) fine has = inr out.0.status
 stopped_where_a_file_shrank law state commands around answer updates old new have (inr runs) fine has =
     stopped_or answer (λ ne. stopped_by_all law state commands around answer updates old new have has fine ne runs)
 
-pub ok_where_no_check_is_broken : HasOneAnswer → (commands : List Command) (around : Around) (answer : Status) (updates : List Ended) (old new : Standing) (plan : List Dataset) → AreValidates commands → RanWell (Some commands) around answer updates old new
+pub ok_where_no_check_is_broken : HasOneAnswer → (commands : List Command) (around : Around) (answer : Status) (updates : List Ended) (old new : RunState) (plan : List Dataset) → AreValidates commands → RanWell (Some commands) around answer updates old new
     → HasPlan around.text plan → answer ≡ status.Ok
 ok_where_no_check_is_broken law commands around answer updates old new plan are well has =
     elim well.ran [ inl out ↦ absurd (well.memory out.0.status) | inr runs ↦ ok_of_validates law commands around answer updates old new plan are has well.fine well.memory runs ]

@@ -22,7 +22,7 @@ use Rattle.pipeline_run.specs.declared.outcome.Status.{Status}
 use Rattle.pipeline_run.specs.declared.outcome.Status.TheVariants as status
 use Rattle.pipeline_run.specs.Pipeline.{text_limit, HasPlan, HasStatements, IsBroken, Knows}
 use Rattle.pipeline_run.specs.Crash.{HasOutcome, HasExecuted, HasRunAll, HasRun}
-use Rattle.pipeline_run.specs.Run.{Around, found_by, IsIdle, IsUpdate, Counts, NoneFalls, Standing, Comes, Blames, BlamesOf, Tells, RunsOut, Executes, Runs, Refuses, IsTelling, IsOfCommands, PrintsOn, SaysShrunk, AnswersUsage}
+use Rattle.pipeline_run.specs.Run.{Around, found_by, IsIdle, IsUpdate, Counts, NoneFalls, RunState, ComesTo, Blames, BlamesOf, Tells, RunsOut, Executes, Runs, Refuses, IsTelling, IsOfCommands, PrintsOn, SaysShrunk, AnswersUsage}
 use Rattle.pipeline_run.specs.Report.{printed, printed_end, status_of, status_of_end}
 use Rattle.pipeline_run.specs.Update.{Ended, acked_by, loaded_by}
 use Rattle.pipeline_run.proofs.CrashLemmas.{WentWell, SoFar, at_start, all_left, no_updates, leaves_on, well_on}
@@ -99,7 +99,7 @@ told_disk outcome status.Memory fact telling is load commit = absurd cc
 
 -- ---- what was printed, and why an update stopped
 
-pub told_prints : (outcome : Outcome) (answer : Status) (old new : Standing) → Tells outcome answer old new → PrintsOn old.printed new.printed
+pub told_prints : (outcome : Outcome) (answer : Status) (old new : RunState) → Tells outcome answer old new → PrintsOn old.printed new.printed
 told_prints outcome answer old new (inl told) = (printed outcome, told.line)
 told_prints outcome answer old new (inr cut) = (take cut.line.0 (printed outcome), cut.line.1)
 
@@ -135,7 +135,7 @@ cut_stops : (answer : Status) (rose prints : Type 0) → ((answer ≡ status.Sin
 cut_stops answer rose prints (inl failed) is = let same : status.Sink ≡ status.Stopped = sym failed.0 ∙ is in cc
 cut_stops answer rose prints (inr memory) is = let same : status.Memory ≡ status.Stopped = sym memory ∙ is in cc
 
-pub told_stopped : (outcome : Outcome) (answer : Status) (rose : Type 0) (old new : Standing) → Tells outcome answer old new → answer ≡ status.Stopped → ((table : Option (List ℕ)) → outcome ≡ Updated table ends.LandingFailed → rose)
+pub told_stopped : (outcome : Outcome) (answer : Status) (rose : Type 0) (old new : RunState) → Tells outcome answer old new → answer ≡ status.Stopped → ((table : Option (List ℕ)) → outcome ≡ Updated table ends.LandingFailed → rose)
     → ((table : Option (List ℕ)) (file : List ℕ) (cursor size : ℕ) → outcome ≡ Updated table (ends.Shrunk file cursor size) → (name : List ℕ) × (table ≡ Some name)) → rose ⊎ SaysShrunk old.printed new.printed
 told_stopped outcome answer rose old new (inl told) is failed shrunk = stopped_outcome outcome rose old.printed new.printed (sym told.status ∙ is) told.line failed shrunk
 told_stopped outcome answer rose old new (inr cut) is failed shrunk = absurd (cut_stops answer (Rose old.faults.sink new.faults.sink) (printed outcome ≢ []) cut.status is)
@@ -158,7 +158,7 @@ only_says was now (inl rose) = absurd (let never : ⊥ = omega arith in never)
 only_says was now (inr says) = says
 
 -- memory ran out before there was an outcome
-pub ran_out : (timed : Type 0) (command : Command) (around : Around) (old new : Standing) (disk : DiskState) → new.file ≡ old.file → new.printed ≡ old.printed → NoneFalls old.faults new.faults → HasExecuted timed command around status.Memory old new disk disk
+pub ran_out : (timed : Type 0) (command : Command) (around : Around) (old new : RunState) (disk : DiskState) → new.file ≡ old.file → new.printed ≡ old.printed → NoneFalls old.faults new.faults → HasExecuted timed command around status.Memory old new disk disk
 ran_out timed command around old new disk file printed later = record {
   updates = [];
   executes = inr (record { status = refl; file = file; printed = printed; later = later }, refl);
@@ -205,7 +205,7 @@ idled_well updates before after idle =
     subst (λ (list : List Ended). WentWell list before after) (sym idle.0)
     (subst (λ (bytes : List ℕ). WentWell [] before bytes) (sym idle.1) (none_went_well before))
 
-came_well : (command : Command) (around : Around) (outcome : Outcome) (updates : List Ended) (before after : List ℕ) → status_of outcome ≡ status.Ok → Comes command around outcome updates before after → WentWell updates before after
+came_well : (command : Command) (around : Around) (outcome : Outcome) (updates : List Ended) (before after : List ℕ) → status_of outcome ≡ status.Ok → ComesTo command around outcome updates before after → WentWell updates before after
 came_well Validate around (Valid plan) updates before after ok comes = idled_well updates before after comes.1
 came_well Validate around Usage updates before after ok comes = absurd cc
 came_well Validate around TextFailed updates before after ok comes = absurd cc
@@ -219,11 +219,11 @@ came_well Update around (Refused refusal) updates before after ok comes = absurd
 came_well Update around (Broken statement fault) updates before after ok comes = absurd cc
 came_well Update around (Updated table end) updates before after ok comes = ended_well comes.0 around end updates before after ok comes.3
 
-told_well : (outcome : Outcome) (answer : Status) (old new : Standing) → Tells outcome answer old new → answer ≡ status.Ok → status_of outcome ≡ status.Ok
+told_well : (outcome : Outcome) (answer : Status) (old new : RunState) → Tells outcome answer old new → answer ≡ status.Ok → status_of outcome ≡ status.Ok
 told_well outcome answer old new (inl told) ok = sym told.status ∙ ok
 told_well outcome answer old new (inr cut) ok = elim cut.status [ inl sink ↦ absurd (let no : status.Sink ≡ status.Ok = sym sink.0 ∙ ok in cc) | inr memory ↦ absurd (let no : status.Memory ≡ status.Ok = sym memory ∙ ok in cc) ]
 
-pub executed_well : (command : Command) (around : Around) (given : Status) (updates : List Ended) (old mid : Standing) → Executes command around given updates old mid → given ≡ status.Ok → WentWell updates old.file mid.file
+pub executed_well : (command : Command) (around : Around) (given : Status) (updates : List Ended) (old mid : RunState) → Executes command around given updates old mid → given ≡ status.Ok → WentWell updates old.file mid.file
 executed_well command around given updates old mid (inl (outcome, does)) ok = came_well command around outcome updates old.file mid.file (told_well outcome given old mid does.tells ok) does.comes
 executed_well command around given updates old mid (inr (out, none)) ok = absurd (let no : status.Memory ≡ status.Ok = sym out.status ∙ ok in cc)
 
@@ -236,7 +236,7 @@ ended_unloaded plan around end updates before after (ended, is, same, with_it) =
 idle_unloaded : (updates : List Ended) → updates ≡ [] → IsUnloaded updates
 idle_unloaded updates none = subst IsUnloaded (sym none) (λ unloaded. refl)
 
-came_unloaded : (command : Command) (around : Around) (outcome : Outcome) (updates : List Ended) (before after : List ℕ) → Comes command around outcome updates before after → IsUnloaded updates
+came_unloaded : (command : Command) (around : Around) (outcome : Outcome) (updates : List Ended) (before after : List ℕ) → ComesTo command around outcome updates before after → IsUnloaded updates
 came_unloaded Validate around (Valid plan) updates before after comes = idle_unloaded updates comes.1.0
 came_unloaded Validate around Usage updates before after comes = absurd comes
 came_unloaded Validate around TextFailed updates before after comes = idle_unloaded updates comes.0
@@ -250,7 +250,7 @@ came_unloaded Update around (Refused refusal) updates before after comes = idle_
 came_unloaded Update around (Broken statement fault) updates before after comes = idle_unloaded updates comes.1.0
 came_unloaded Update around (Updated table end) updates before after comes = ended_unloaded comes.0 around end updates before after comes.3
 
-pub executed_unloaded : (command : Command) (around : Around) (given : Status) (updates : List Ended) (old mid : Standing) → Executes command around given updates old mid → loaded_by updates ≡ false → acked_by updates ≡ []
+pub executed_unloaded : (command : Command) (around : Around) (given : Status) (updates : List Ended) (old mid : RunState) → Executes command around given updates old mid → loaded_by updates ≡ false → acked_by updates ≡ []
 executed_unloaded command around given updates old mid (inl (outcome, does)) = came_unloaded command around outcome updates old.file mid.file does.comes
 executed_unloaded command around given updates old mid (inr (out, none)) = idle_unloaded updates none
 
@@ -260,35 +260,35 @@ split_commands : (commands : List Command) (i : ℕ) (command : Command) → i <
 split_commands commands i command within is = drop_more commands i command within ∙ ap (λ (c : Command). c ∷ drop (i + 1) commands) (sym is)
 
 -- the commands from a place on, and so all of them, with the updates so far
-abbrev pub Continues : Around → List Command → ℕ → List Ended → Standing → Standing → Type 0
+abbrev pub Continues : Around → List Command → ℕ → List Ended → RunState → RunState → Type 0
 Continues around commands i updates start here =
-    (more : List Ended) (answer : Status) (new : Standing) → Runs around (drop i commands) answer more here new → Runs around commands answer (updates ++ more) start new
+    (more : List Ended) (answer : Status) (new : RunState) → Runs around (drop i commands) answer more here new → Runs around commands answer (updates ++ more) start new
 
-pub goes_on : (around : Around) (commands : List Command) (i : ℕ) (command : Command) (updates own : List Ended) (start here mid : Standing) (given : Status) → i < length commands → command ≡ get_or commands i command
+pub goes_on : (around : Around) (commands : List Command) (i : ℕ) (command : Command) (updates own : List Ended) (start here mid : RunState) (given : Status) → i < length commands → command ≡ get_or commands i command
     → Executes command around given own here mid → given ≡ status.Ok → Continues around commands i updates start here → Continues around commands (i + 1) (updates ++ own) start mid
 goes_on around commands i command updates own start here mid given within is executes ok so_far more answer new after =
     subst (λ (list : List Ended). Runs around commands answer list start new) (sym (append_assoc updates own more))
     (so_far (own ++ more) answer new (rw (split_commands commands i command within is) (mid, given, own, more, refl, executes, inl (ok, after))))
 
-pub stops : (around : Around) (commands : List Command) (i : ℕ) (command : Command) (updates own : List Ended) (start here mid : Standing) (given : Status) → i < length commands → command ≡ get_or commands i command
+pub stops : (around : Around) (commands : List Command) (i : ℕ) (command : Command) (updates own : List Ended) (start here mid : RunState) (given : Status) → i < length commands → command ≡ get_or commands i command
     → Executes command around given own here mid → given ≢ status.Ok → Continues around commands i updates start here → Runs around commands given (updates ++ own) start mid
 stops around commands i command updates own start here mid given within is executes ne so_far =
     so_far own given mid (rw (split_commands commands i command within is) (mid, given, own, [], sym (append-nil own), executes, inr (ne, refl, refl, refl)))
 
-pub is_done : (around : Around) (commands : List Command) (i : ℕ) (updates : List Ended) (start here : Standing) → length commands ≤ i → Continues around commands i updates start here → Runs around commands status.Ok updates start here
+pub is_done : (around : Around) (commands : List Command) (i : ℕ) (updates : List Ended) (start here : RunState) → length commands ≤ i → Continues around commands i updates start here → Runs around commands status.Ok updates start here
 is_done around commands i updates start here past so_far =
     subst (λ (list : List Ended). Runs around commands status.Ok list start here) (append-nil updates) (so_far [] status.Ok here (rw (drop_all i commands past) (refl, refl, refl)))
 
 -- what is known before each command
-pub record GoesSo (timed : Type 0) (around : Around) (commands : List Command) (i : ℕ) (start here : Standing) (was now : DiskState) : Type 0 where
+pub record GoesSo (timed : Type 0) (around : Around) (commands : List Command) (i : ℕ) (start here : RunState) (was now : DiskState) : Type 0 where
   pub updates : List Ended
   pub continues : Continues around commands i updates start here
   pub far : SoFar timed updates was now
 
-pub begins : (timed : Type 0) (around : Around) (commands : List Command) (start : Standing) (disk : DiskState) → GoesSo timed around commands 0 start start disk disk
+pub begins : (timed : Type 0) (around : Around) (commands : List Command) (start : RunState) (disk : DiskState) → GoesSo timed around commands 0 start start disk disk
 begins timed around commands start disk = record { updates = []; continues = λ more answer new runs. runs; far = at_start timed disk }
 
-pub next_command : (timed : Type 0) (around : Around) (commands : List Command) (i : ℕ) (command : Command) (start here mid : Standing) (was now new : DiskState) (given : Status) → i < length commands → command ≡ get_or commands i command
+pub next_command : (timed : Type 0) (around : Around) (commands : List Command) (i : ℕ) (command : Command) (start here mid : RunState) (was now new : DiskState) (given : Status) → i < length commands → command ≡ get_or commands i command
     → here.file ≡ now.now.left → mid.file ≡ new.now.left → HasExecuted timed command around given here mid now new → given ≡ status.Ok → GoesSo timed around commands i start here was now → GoesSo timed around commands (i + 1) start mid was new
 next_command timed around commands i command start here mid was now new given within is same_here same_mid done ok so_far = record {
   updates = so_far.updates ++ done.updates;
@@ -296,7 +296,7 @@ next_command timed around commands i command start here mid was now new given wi
   far = well_on timed so_far.updates done.updates was now new so_far.far done.leaves (rw (same_here, same_mid) at (executed_well command around given done.updates here mid done.executes ok));
 }
 
-pub last_command : (timed : Type 0) (around : Around) (commands : List Command) (i : ℕ) (command : Command) (start here mid : Standing) (was now new : DiskState) (given : Status) → i < length commands → command ≡ get_or commands i command
+pub last_command : (timed : Type 0) (around : Around) (commands : List Command) (i : ℕ) (command : Command) (start here mid : RunState) (was now new : DiskState) (given : Status) → i < length commands → command ≡ get_or commands i command
     → HasExecuted timed command around given here mid now new → given ≢ status.Ok → GoesSo timed around commands i start here was now → HasRunAll timed commands around given start mid was new
 last_command timed around commands i command start here mid was now new given within is done ne so_far = record {
   updates = so_far.updates ++ done.updates;
@@ -304,7 +304,7 @@ last_command timed around commands i command start here mid was now new given wi
   leaves = leaves_on timed so_far.updates done.updates was now new so_far.far done.leaves (executed_unloaded command around given done.updates here mid done.executes);
 }
 
-pub all_commands : (timed : Type 0) (around : Around) (commands : List Command) (i : ℕ) (start here : Standing) (was now : DiskState) → length commands ≤ i → GoesSo timed around commands i start here was now → HasRunAll timed commands around status.Ok start here was now
+pub all_commands : (timed : Type 0) (around : Around) (commands : List Command) (i : ℕ) (start here : RunState) (was now : DiskState) → length commands ≤ i → GoesSo timed around commands i start here was now → HasRunAll timed commands around status.Ok start here was now
 all_commands timed around commands i start here was now past so_far = record {
   updates = so_far.updates;
   runs = is_done around commands i so_far.updates start here past so_far.continues;
@@ -324,20 +324,20 @@ says_no_usage commands status.Stopped own = tt
 says_no_usage commands status.Memory own = tt
 says_no_usage commands status.Usage own = absurd own
 
-out : (old : Standing) → RunsOut status.Memory old old
+out : (old : RunState) → RunsOut status.Memory old old
 out old = record { status = refl; file = refl; printed = refl; later = record { text = omega arith; disk = omega arith; landing = omega arith; sink = omega arith } }
 
-pub ran_no_words : (timed : Type 0) (asked : Option (List Command)) (around : Around) (answer : Status) (old new : Standing) (disk : DiskState) → asked ≡ None → Refuses Usage answer old new → HasRun timed asked around answer old new disk disk
+pub ran_no_words : (timed : Type 0) (asked : Option (List Command)) (around : Around) (answer : Status) (old new : RunState) (disk : DiskState) → asked ≡ None → Refuses Usage answer old new → HasRun timed asked around answer old new disk disk
 ran_no_words timed None around answer old new disk is refuses = record { updates = []; ran = (inl refuses, refl); leaves = no_updates timed disk }
 ran_no_words timed (Some commands) around answer old new disk is refuses = absurd cc
 
-pub ran_commands : (timed : Type 0) (asked : Option (List Command)) (commands : List Command) (around : Around) (answer : Status) (old new : Standing) (was now : DiskState) → asked ≡ Some commands → HasRunAll timed commands around answer old new was now
+pub ran_commands : (timed : Type 0) (asked : Option (List Command)) (commands : List Command) (around : Around) (answer : Status) (old new : RunState) (was now : DiskState) → asked ≡ Some commands → HasRunAll timed commands around answer old new was now
     → HasRun timed asked around answer old new was now
 ran_commands timed None commands around answer old new was now is runs = absurd cc
 ran_commands timed (Some others) commands around answer old new was now is runs =
     let same : others ≡ commands = cc in
     record { updates = runs.updates; ran = inr (rw same runs.runs); leaves = runs.leaves }
 
-pub ran_out_of_words : (timed : Type 0) (asked : Option (List Command)) (around : Around) (old : Standing) (disk : DiskState) → HasRun timed asked around status.Memory old old disk disk
+pub ran_out_of_words : (timed : Type 0) (asked : Option (List Command)) (around : Around) (old : RunState) (disk : DiskState) → HasRun timed asked around status.Memory old old disk disk
 ran_out_of_words timed None around old disk = record { updates = []; ran = (inr (out old), refl); leaves = no_updates timed disk }
 ran_out_of_words timed (Some commands) around old disk = record { updates = []; ran = inl (out old, refl); leaves = no_updates timed disk }

@@ -1,11 +1,10 @@
 -- What becomes of a file that isn't empty, over commands in order.
-use Rattle.std.proofs.Common.{◌≡◌, ◌≢◌, ◌⊎◌, inl, inr, ℕ, ◌+◌, ◌<◌, ◌≤◌, List, [], ◌∷◌, refl, sym, ap, subst, ◌∙◌, Option, arith}
+use Rattle.std.proofs.Common.{◌≡◌, ◌≢◌, ◌⊎◌, inl, inr, ℕ, ◌≤◌, List, [], ◌∷◌, refl, sym, subst, ◌∙◌, Option, arith}
 use Rattle.disk_model.specs.declared.disk.Side.TheVariants.{Left}
 use Rattle.disk_model.specs.Disk.{DiskState, TwoFiles, file}
 use Rattle.disk_model.specs.Faults.{Rose}
-use Rattle.disk_model.specs.Moments.{LeavesOnly}
 use Rattle.disk_model.proofs.RunLemmas.{started, joins}
-use Rattle.commit_gate.specs.Head.{IsUntouched, Same}
+use Rattle.commit_gate.specs.Head.{Same}
 use Rattle.commit_records.specs.declared.payload.Payload.{Payload}
 use Rattle.store_core.specs.Reach.{IsLogEnd}
 use Rattle.store_core.specs.Spared.{IsRefusedFile, IsSpared, LogGoesOn}
@@ -22,7 +21,7 @@ use Rattle.pipeline_run.specs.declared.outcome.Outcome.TheVariants.{Usage, TextF
 use Rattle.pipeline_run.specs.declared.outcome.Status.{Status}
 use Rattle.pipeline_run.specs.declared.outcome.Status.TheVariants as status
 use Rattle.pipeline_run.specs.Report.{printed, status_of, status_of_end}
-use Rattle.pipeline_run.specs.Run.{Around, Standing, IsIdle, IsUpdate, Comes, Tells, Executes}
+use Rattle.pipeline_run.specs.Run.{Around, RunState, IsIdle, IsUpdate, ComesTo, Tells, Executes}
 use Rattle.pipeline_run.specs.Update.{Ended}
 use Rattle.pipeline_run.proofs.RunLemmas.{success}
 
@@ -76,7 +75,7 @@ ended_ends : (plan : Option AppendTable) (around : Around) (end : UpdateEnd) (up
 ended_ends plan around end updates before after ok (ended, is, same, with_it) at log =
     (end_after at ended.tried, end_later at ended.tried, with_it.goes_on (subst IsSuccess (sym same) (success end ok)) at (inl log))
 
-came_ends : (command : Command) (around : Around) (outcome : Outcome) (updates : List Ended) (before after : List ℕ) → status_of outcome ≡ status.Ok → Comes command around outcome updates before after → (at : ℕ) → IsLogEnd at before → EndsOn at after
+came_ends : (command : Command) (around : Around) (outcome : Outcome) (updates : List Ended) (before after : List ℕ) → status_of outcome ≡ status.Ok → ComesTo command around outcome updates before after → (at : ℕ) → IsLogEnd at before → EndsOn at after
 came_ends Validate around (Valid plan) updates before after ok comes at log = idle_ends updates before after comes.1 at log
 came_ends Validate around Usage updates before after ok comes at log = absurd cc
 came_ends Validate around TextFailed updates before after ok comes at log = absurd cc
@@ -94,11 +93,11 @@ cut_well : (answer : Status) (rose prints : Type 0) → ((answer ≡ status.Sink
 cut_well answer rose prints (inl failed) is = let same : status.Sink ≡ status.Ok = sym failed.0 ∙ is in cc
 cut_well answer rose prints (inr memory) is = let same : status.Memory ≡ status.Ok = sym memory ∙ is in cc
 
-told_well : (outcome : Outcome) (answer : Status) (old new : Standing) → Tells outcome answer old new → answer ≡ status.Ok → status_of outcome ≡ status.Ok
+told_well : (outcome : Outcome) (answer : Status) (old new : RunState) → Tells outcome answer old new → answer ≡ status.Ok → status_of outcome ≡ status.Ok
 told_well outcome answer old new (inl told) is = sym told.status ∙ is
 told_well outcome answer old new (inr cut) is = absurd (cut_well answer (Rose old.faults.sink new.faults.sink) (printed outcome ≢ []) cut.status is)
 
-log_ends : (first : Command) (around : Around) (given : Status) (updates : List Ended) (old mid : Standing) → given ≡ status.Ok → Executes first around given updates old mid → (at : ℕ) → IsLogEnd at old.file → EndsOn at mid.file
+log_ends : (first : Command) (around : Around) (given : Status) (updates : List Ended) (old mid : RunState) → given ≡ status.Ok → Executes first around given updates old mid → (at : ℕ) → IsLogEnd at old.file → EndsOn at mid.file
 log_ends first around given updates old mid ok (inl (outcome, does)) at log = came_ends first around outcome updates old.file mid.file (told_well outcome given old mid does.tells ok) does.comes at log
 log_ends first around given updates old mid ok (inr out) at log = absurd (let no : status.Memory ≡ status.Ok = sym out.0.status ∙ ok in let never : ⊥ = cc in never)
 
@@ -116,7 +115,7 @@ went_itself timed at disk log = record { goes = goes_itself timed at disk log; e
 pub goes_further : (timed : Type 0) (room at : ℕ) (old mid new : DiskState) → WentOn timed at old mid → KeepsStore timed room mid new → LogGoesOn timed at old new
 goes_further timed room at old mid new went keeps = goes_on_on timed at went.ends.0 old mid new went.ends.1 went.goes (keeps.log went.ends.0 went.ends.2)
 
-pub went_further : (timed : Type 0) (room at : ℕ) (old mid new : DiskState) (first : Command) (around : Around) (given : Status) (updates : List Ended) (here there : Standing) → here.file ≡ mid.now.left → there.file ≡ new.now.left → given ≡ status.Ok
+pub went_further : (timed : Type 0) (room at : ℕ) (old mid new : DiskState) (first : Command) (around : Around) (given : Status) (updates : List Ended) (here there : RunState) → here.file ≡ mid.now.left → there.file ≡ new.now.left → given ≡ status.Ok
     → Executes first around given updates here there → WentOn timed at old mid → KeepsStore timed room mid new → WentOn timed at old new
 went_further timed room at old mid new first around given updates here there is_here is_there ok executes went keeps =
     let more = log_ends first around given updates here there ok executes went.ends.0 (subst (IsLogEnd went.ends.0) (sym is_here) went.ends.2) in

@@ -22,7 +22,7 @@ use Rattle.pipeline_run.specs.declared.command.Command.{Command}
 use Rattle.pipeline_run.specs.declared.command.Command.TheVariants.{Validate, Update}
 use Rattle.pipeline_run.specs.declared.outcome.Outcome.TheVariants.{Updated}
 use Rattle.pipeline_run.specs.Pipeline.{text_limit, HasStatements, HasPlan}
-use Rattle.pipeline_run.specs.Run.{Around, Comes, IsUpdate, found_by}
+use Rattle.pipeline_run.specs.Run.{Around, ComesTo, IsUpdate, found_by}
 use Rattle.pipeline_run.specs.Table.{plan_of}
 use Rattle.pipeline_run.specs.Update.{Ended}
 use Rattle.pipeline_run.proofs.TableLemmas.{one_asked, checked_text}
@@ -96,7 +96,7 @@ ended_unfit law plan stood ever around name updates before after one standing (e
     one standing (subst (λ (end : UpdateEnd). Updates plan (found_by around before) ended.loaded ended.acked ended.tried end) same with_it.updates)
 
 pub standing_never_unfit : HasOneTable → HasOneState → (text : List ℕ) (stood : AppendTable) (ever : List LandingFile) (command : Command) (around : Around) (table : Option (List ℕ)) (name : List ℕ) (updates : List Ended) (before after : List ℕ) → HasPlan text (plan_of (Some stood)) → HasStanding stood ever before
-    → Comes command around (Updated table (Unfit name)) updates before after → ⊥
+    → ComesTo command around (Updated table (Unfit name)) updates before after → ⊥
 standing_never_unfit tables law text stood ever Validate around table name updates before after has standing comes = comes
 standing_never_unfit tables law text stood ever Update around table name updates before after has standing comes =
     ended_unfit law comes.0 stood ever around name updates before after (one_of tables around.text text comes.0 stood comes.1 has) standing comes.3

@@ -9,7 +9,7 @@ use Rattle.table_update.specs.Crash.{Leaves}
 use Rattle.pipeline_run.specs.declared.command.Command.{Command}
 use Rattle.pipeline_run.specs.declared.outcome.Outcome.{Outcome}
 use Rattle.pipeline_run.specs.declared.outcome.Status.{Status}
-use Rattle.pipeline_run.specs.Run.{Around, Standing, Comes, Executes, Runs, Ran}
+use Rattle.pipeline_run.specs.Run.{Around, RunState, ComesTo, Executes, Runs, Ran}
 use Rattle.pipeline_run.specs.Update.{Ended, acked_by, tried_by, loaded_by, LoadFails}
 
 -- the disk is as it was: what a read gives and what a crash leaves
@@ -32,23 +32,23 @@ pub record KeepsStore (timed : Type 0) (room : ℕ) (old new : DiskState) : Type
 -- a command came to this outcome
 pub record HasOutcome (timed : Type 0) (command : Command) (around : Around) (outcome : Outcome) (old new : DiskState) : Type 0 where
   pub updates : List Ended
-  pub comes : Comes command around outcome updates old.now.left new.now.left
+  pub comes : ComesTo command around outcome updates old.now.left new.now.left
   pub leaves : LeavesAll timed updates old new
 
 -- it was executed
-pub record HasExecuted (timed : Type 0) (command : Command) (around : Around) (answer : Status) (old new : Standing) (was now : DiskState) : Type 0 where
+pub record HasExecuted (timed : Type 0) (command : Command) (around : Around) (answer : Status) (old new : RunState) (was now : DiskState) : Type 0 where
   pub updates : List Ended
   pub executes : Executes command around answer updates old new
   pub leaves : LeavesAll timed updates was now
 
 -- commands were executed in order
-pub record HasRunAll (timed : Type 0) (commands : List Command) (around : Around) (answer : Status) (old new : Standing) (was now : DiskState) : Type 0 where
+pub record HasRunAll (timed : Type 0) (commands : List Command) (around : Around) (answer : Status) (old new : RunState) (was now : DiskState) : Type 0 where
   pub updates : List Ended
   pub runs : Runs around commands answer updates old new
   pub leaves : LeavesAll timed updates was now
 
 -- a whole run: what it stored, printed and answered, and what a crash leaves
-pub record HasRun (timed : Type 0) (asked : Option (List Command)) (around : Around) (answer : Status) (old new : Standing) (was now : DiskState) : Type 0 where
+pub record HasRun (timed : Type 0) (asked : Option (List Command)) (around : Around) (answer : Status) (old new : RunState) (was now : DiskState) : Type 0 where
   pub updates : List Ended
   pub ran : Ran asked around answer updates old new
   pub leaves : LeavesAll timed updates was now

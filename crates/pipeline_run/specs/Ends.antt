@@ -15,19 +15,19 @@ use Rattle.pipeline_run.specs.declared.command.Command.TheVariants as command
 use Rattle.pipeline_run.specs.declared.outcome.Status.{Status}
 use Rattle.pipeline_run.specs.declared.outcome.Status.TheVariants as status
 use Rattle.pipeline_run.specs.Pipeline.{HasPlan}
-use Rattle.pipeline_run.specs.Run.{Around, found_by, Standing, Ran}
+use Rattle.pipeline_run.specs.Run.{Around, found_by, RunState, Ran}
 use Rattle.pipeline_run.specs.Table.{plan_of}
 use Rattle.pipeline_run.specs.Update.{Ended, tried_by}
 
--- no device's count of failures rose between these standings
-pub record NothingFailed (old new : Standing) : Type 0 where
+-- no device's count of failures rose between these states of a run
+pub record NothingFailed (old new : RunState) : Type 0 where
   pub text : Rose old.faults.text new.faults.text → ⊥
   pub disk : Rose old.faults.disk new.faults.disk → ⊥
   pub landing : Rose old.faults.landing new.faults.landing → ⊥
   pub sink : Rose old.faults.sink new.faults.sink → ⊥
 
 -- a run that ended with this answer, and neither for a device nor for want of memory
-pub record RanWell (asked : Option (List Command)) (around : Around) (answer : Status) (updates : List Ended) (old new : Standing) : Type 0 where
+pub record RanWell (asked : Option (List Command)) (around : Around) (answer : Status) (updates : List Ended) (old new : RunState) : Type 0 where
   pub ran : Ran asked around answer updates old new
   pub fine : NothingFailed old new
   pub memory : answer ≡ status.Memory → ⊥
@@ -37,7 +37,7 @@ abbrev pub SameFile : List ℕ → List ℕ → Type 0
 SameFile file other = (file ≡ other) ⊎ Alike file other
 
 -- the answer, what was printed and what was committed are the same, and where that is all a success, so are the files
-pub record SameEnd (answer other : Status) (updates others : List Ended) (new also : Standing) : Type 0 where
+pub record SameEnd (answer other : Status) (updates others : List Ended) (new also : RunState) : Type 0 where
   pub answers : answer ≡ other
   pub printed : new.printed ≡ also.printed
   pub tried : tried_by updates ≡ tried_by others

@@ -39,8 +39,8 @@ pub record NoneFalls (old new : Counts) : Type 0 where
   pub landing : old.landing ≤ new.landing
   pub sink : old.sink ≤ new.sink
 
--- what stands before and after each command: the bytes of the store's file, what was printed, and the failures so far
-pub record Standing : Type 0 where
+-- what a run has come to before and after each command: the bytes of the store's file, what was printed, and the failures so far
+pub record RunState : Type 0 where
   pub file : List ℕ
   pub printed : List ℕ
   pub faults : Counts
@@ -48,20 +48,20 @@ pub record Standing : Type 0 where
 -- ---- one line
 
 -- the outcome was told: its line was printed whole, and the answer is its own
-pub record IsTold (outcome : Outcome) (answer : Status) (old new : Standing) : Type 0 where
+pub record IsTold (outcome : Outcome) (answer : Status) (old new : RunState) : Type 0 where
   pub status : answer ≡ status_of outcome
   pub line : new.printed ≡ old.printed ++ printed outcome
 
 -- it couldn't be told: the sink failed at its line or memory ran out, and a front of the line was printed
-pub record IsCut (outcome : Outcome) (answer : Status) (old new : Standing) : Type 0 where
+pub record IsCut (outcome : Outcome) (answer : Status) (old new : RunState) : Type 0 where
   pub status : ((answer ≡ status.Sink) × Rose old.faults.sink new.faults.sink × (printed outcome ≢ [])) ⊎ (answer ≡ status.Memory)
   pub line : (n : ℕ) × (new.printed ≡ old.printed ++ take n (printed outcome))
 
-abbrev pub Tells : Outcome → Status → Standing → Standing → Type 0
+abbrev pub Tells : Outcome → Status → RunState → RunState → Type 0
 Tells outcome answer old new = IsTold outcome answer old new ⊎ IsCut outcome answer old new
 
 -- memory ran out before there was an outcome
-pub record RunsOut (answer : Status) (old new : Standing) : Type 0 where
+pub record RunsOut (answer : Status) (old new : RunState) : Type 0 where
   pub status : answer ≡ status.Memory
   pub file : new.file ≡ old.file
   pub printed : new.printed ≡ old.printed
@@ -88,14 +88,14 @@ IsUpdateOf name around end updates before after =
 -- When a command comes to an outcome, which updates it had, and the bytes of the store's file before and after it. Each
 -- command needs the text. One whose text couldn't be read, or is refused, or has a statement that breaks a check, leaves the
 -- file as it was.
-abbrev pub Comes : Command → Around → Outcome → List Ended → List ℕ → List ℕ → Type 0
-Comes command around TextFailed updates before after = IsIdle updates before after
-Comes command around (Refused refusal) updates before after = IsRefused (take text_limit around.text) refusal × IsIdle updates before after
-Comes command around (Broken statement fault) updates before after = IsBroken around.text statement fault × IsIdle updates before after
-Comes command.Validate around (Valid plan) updates before after = HasPlan around.text plan × IsIdle updates before after
-Comes command.Validate around outcome updates before after = ⊥
-Comes command.Update around (Updated name end) updates before after = IsUpdateOf name around end updates before after
-Comes command.Update around outcome updates before after = ⊥
+abbrev pub ComesTo : Command → Around → Outcome → List Ended → List ℕ → List ℕ → Type 0
+ComesTo command around TextFailed updates before after = IsIdle updates before after
+ComesTo command around (Refused refusal) updates before after = IsRefused (take text_limit around.text) refusal × IsIdle updates before after
+ComesTo command around (Broken statement fault) updates before after = IsBroken around.text statement fault × IsIdle updates before after
+ComesTo command.Validate around (Valid plan) updates before after = HasPlan around.text plan × IsIdle updates before after
+ComesTo command.Validate around outcome updates before after = ⊥
+ComesTo command.Update around (Updated name end) updates before after = IsUpdateOf name around end updates before after
+ComesTo command.Update around outcome updates before after = ⊥
 
 -- an end of an update that blames a device comes only where that device's count rose
 abbrev pub BlamesOf : Counts → Counts → UpdateEnd → Type 0
@@ -111,33 +111,33 @@ Blames before now (Updated name end) = BlamesOf before now end
 Blames before now _ = Unit {0}
 
 -- a command came to this outcome
-pub record Does (command : Command) (around : Around) (answer : Status) (updates : List Ended) (old new : Standing) (outcome : Outcome) : Type 0 where
-  pub comes : Comes command around outcome updates old.file new.file
+pub record Does (command : Command) (around : Around) (answer : Status) (updates : List Ended) (old new : RunState) (outcome : Outcome) : Type 0 where
+  pub comes : ComesTo command around outcome updates old.file new.file
   pub blames : Blames old.faults new.faults outcome
   pub tells : Tells outcome answer old new
   pub later : NoneFalls old.faults new.faults
 
-abbrev pub Executes : Command → Around → Status → List Ended → Standing → Standing → Type 0
+abbrev pub Executes : Command → Around → Status → List Ended → RunState → RunState → Type 0
 Executes command around answer updates old new =
     ((outcome : Outcome) × Does command around answer updates old new outcome) ⊎ (RunsOut answer old new × (updates ≡ []))
 
 -- ---- commands in order: the first answer other than Ok ends them
 
-abbrev pub Runs : Around → List Command → Status → List Ended → Standing → Standing → Type 0
+abbrev pub Runs : Around → List Command → Status → List Ended → RunState → RunState → Type 0
 Runs around [] answer updates old new = (answer ≡ status.Ok) × (updates ≡ []) × (new ≡ old)
 Runs around (first ∷ others) answer updates old new =
-    (mid : Standing) × (given : Status) × (own more : List Ended) × (updates ≡ own ++ more) × Executes first around given own old mid
+    (mid : RunState) × (given : Status) × (own more : List Ended) × (updates ≡ own ++ more) × Executes first around given own old mid
     × (((given ≡ status.Ok) × Runs around others answer more mid new) ⊎ ((given ≢ status.Ok) × (answer ≡ given) × (more ≡ []) × (new ≡ mid)))
 
 -- ---- a whole run
 
 -- no command was reached: the file stays
-pub record Refuses (outcome : Outcome) (answer : Status) (old new : Standing) : Type 0 where
+pub record Refuses (outcome : Outcome) (answer : Status) (old new : RunState) : Type 0 where
   pub file : new.file ≡ old.file
   pub tells : Tells outcome answer old new
 
 -- The words come first, and then the commands in order.
-abbrev pub Ran : Option (List Command) → Around → Status → List Ended → Standing → Standing → Type 0
+abbrev pub Ran : Option (List Command) → Around → Status → List Ended → RunState → RunState → Type 0
 Ran None around answer updates old new = (Refuses Usage answer old new ⊎ RunsOut answer old new) × (updates ≡ [])
 Ran (Some commands) around answer updates old new = (RunsOut answer old new × (updates ≡ [])) ⊎ Runs around commands answer updates old new
 

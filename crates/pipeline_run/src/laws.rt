@@ -11,7 +11,7 @@ ghost use Rattle.pipeline_run.specs.declared.outcome.Status.{Status};
 ghost use Rattle.pipeline_run.specs.declared.outcome.Status.TheVariants as status;
 ghost use Rattle.pipeline_run.specs.Ends.{NothingFailed, RanWell, SameEnd, NothingRefused, HasShrunk, AreValidates, HaveUpdate};
 ghost use Rattle.pipeline_run.specs.Pipeline.{HasPlan};
-ghost use Rattle.pipeline_run.specs.Run.{Around, Comes, Ran, Standing};
+ghost use Rattle.pipeline_run.specs.Run.{Around, ComesTo, Ran, RunState};
 ghost use Rattle.pipeline_run.specs.Table.{AsksFor, plan_of};
 ghost use Rattle.pipeline_run.specs.Update.{Ended};
 
@@ -26,7 +26,7 @@ use type_check::{checked_plans_are_sound, checked_tables_keep_text, statements_h
 /// A law: where no device fails and memory is there, what a run answers, commits and prints follows from the words, the
 /// text, the landing files, the store's file and its room.
 pub fn a_run_has_one_end()
-    ensures { (asked : Option (List Command)) (around : Around) (answer other : Status) (updates others : List Ended) (old new also : Standing) → RanWell asked around answer updates old new → RanWell asked around other others old also → SameEnd answer other updates others new also }
+    ensures { (asked : Option (List Command)) (around : Around) (answer other : Status) (updates others : List Ended) (old new also : RunState) → RanWell asked around answer updates old new → RanWell asked around other others old also → SameEnd answer other updates others new also }
 {
     a_text_has_one_answer();
     statements_have_one_answer();
@@ -38,7 +38,7 @@ pub fn a_run_has_one_end()
 /// many updates are among them. The text's statements break no check, the store is the pipeline's table or an empty one,
 /// no file is shorter than its place, and there is room. So an update that succeeded leaves nothing to refuse to those behind it.
 pub fn commands_succeed_where_nothing_is_refused()
-    ensures { (commands : List Command) (around : Around) (answer : Status) (updates : List Ended) (old new : Standing) → Ran (Some commands) around answer updates old new → NothingFailed old new → NothingRefused around old.file → (answer ≡ status.Ok) ⊎ (answer ≡ status.Memory) }
+    ensures { (commands : List Command) (around : Around) (answer : Status) (updates : List Ended) (old new : RunState) → Ran (Some commands) around answer updates old new → NothingFailed old new → NothingRefused around old.file → (answer ≡ status.Ok) ⊎ (answer ≡ status.Memory) }
 {
     a_text_has_one_answer();
     statements_have_one_answer();
@@ -48,7 +48,7 @@ pub fn commands_succeed_where_nothing_is_refused()
 /// A law: where no device fails, and a listed file is shorter than how far the pipeline's table has read it, commands with an
 /// update among them stop, or memory runs out. Beside the law before, they stop exactly there, if nothing else is refused.
 pub fn commands_stop_where_a_file_shrank()
-    ensures { (commands : List Command) (around : Around) (answer : Status) (updates : List Ended) (old new : Standing) → HaveUpdate commands → Ran (Some commands) around answer updates old new → NothingFailed old new → HasShrunk around old.file → (answer ≡ status.Stopped) ⊎ (answer ≡ status.Memory) }
+    ensures { (commands : List Command) (around : Around) (answer : Status) (updates : List Ended) (old new : RunState) → HaveUpdate commands → Ran (Some commands) around answer updates old new → NothingFailed old new → HasShrunk around old.file → (answer ≡ status.Stopped) ⊎ (answer ≡ status.Memory) }
 {
     a_text_has_one_answer();
     statements_have_one_answer();
@@ -57,7 +57,7 @@ pub fn commands_stop_where_a_file_shrank()
 
 /// A law: where no device fails and memory is there, `validate` succeeds where the text's statements break no check.
 pub fn validates_succeed_where_no_check_is_broken()
-    ensures { (commands : List Command) (around : Around) (answer : Status) (updates : List Ended) (old new : Standing) (plan : List Dataset) → AreValidates commands → RanWell (Some commands) around answer updates old new → HasPlan around.text plan → answer ≡ status.Ok }
+    ensures { (commands : List Command) (around : Around) (answer : Status) (updates : List Ended) (old new : RunState) (plan : List Dataset) → AreValidates commands → RanWell (Some commands) around answer updates old new → HasPlan around.text plan → answer ≡ status.Ok }
 {
     a_text_has_one_answer();
     statements_have_one_answer();
@@ -74,7 +74,7 @@ pub fn tables_of_one_text_are_one()
 /// A law: where the store stands for the table of a text that passes the checks, whichever text that is, no command refuses it
 /// as unfit.
 pub fn a_store_that_stands_is_never_unfit()
-    ensures { (text : List ℕ) (stood : AppendTable) (ever : List LandingFile) (command : Command) (around : Around) (table : Option (List ℕ)) (name : List ℕ) (updates : List Ended) (before after : List ℕ) → HasPlan text (plan_of (Some stood)) → HasStanding stood ever before → Comes command around (outcomes.Updated table (ends.Unfit name)) updates before after → ⊥ }
+    ensures { (text : List ℕ) (stood : AppendTable) (ever : List LandingFile) (command : Command) (around : Around) (table : Option (List ℕ)) (name : List ℕ) (updates : List Ended) (before after : List ℕ) → HasPlan text (plan_of (Some stood)) → HasStanding stood ever before → ComesTo command around (outcomes.Updated table (ends.Unfit name)) updates before after → ⊥ }
 {
     a_reading_has_one_print();
     statements_have_one_answer();

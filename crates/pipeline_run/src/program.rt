@@ -15,7 +15,7 @@ ghost use Rattle.pipeline_run.specs.Command.{commands_of};
 ghost use Rattle.pipeline_run.specs.Crash.{KeepsStore, HasOutcome, HasExecuted, HasRunAll, HasRun};
 ghost use Rattle.pipeline_run.specs.Pipeline.{text_limit, HasPlan, HasStatements, Knows};
 ghost use Rattle.pipeline_run.specs.Report.{status_of};
-ghost use Rattle.pipeline_run.specs.Run.{Around, Counts, Standing, Tells, IsTelling, IsOfCommand, IsOfStatements, IsOfCommands, PrintsOn, SaysShrunk, AnswersUsage};
+ghost use Rattle.pipeline_run.specs.Run.{Around, Counts, RunState, Tells, IsTelling, IsOfCommand, IsOfStatements, IsOfCommands, PrintsOn, SaysShrunk, AnswersUsage};
 ghost use Rattle.pipeline_run.specs.Table.{AskFor, AsksFor, IsUpdatable, plan_of};
 
 use crate::command::{Command, commands};

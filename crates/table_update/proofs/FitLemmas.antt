@@ -1,5 +1,5 @@
 -- An update is unfit only for another definition of its table's name and text.
-use Rattle.std.proofs.Common.{◌≡◌, ◌≢◌, inl, inr, ℕ, ◌^◌, ◌<◌, ◌≤◌, Bool, true, false, not, find, bytes_eq, List, [], ◌∷◌, length, Option, Some, None, refl, sym, ap, ◌∙◌, subst, arith}
+use Rattle.std.proofs.Common.{◌≡◌, inl, inr, ℕ, ◌^◌, ◌≤◌, Bool, true, false, not, bytes_eq, List, [], ◌∷◌, length, Some, None, refl, sym, ap, ◌∙◌, subst, arith}
 use Rattle.std.proofs.lemmas.Bool.{and_parts}
 use Rattle.std.proofs.lemmas.Slice.Eq.{bytes_eq-Decides}
 use Rattle.value_core.specs.NameFold.{same_name}
@@ -10,9 +10,9 @@ use Rattle.store_state.specs.State.{State, definitions_of}
 use Rattle.store_core.specs.State.{HasState}
 use Rattle.store_core.proofs.StateLemmas.{one_state}
 use Rattle.table_update.specs.Fit.{IsOtherOfItsText}
-use Rattle.table_update.specs.Stands.{HasStanding, Stands, TableStands}
-use Rattle.table_update.specs.Table.{HoldsTable, IsDefinedBy, definition_of}
-use Rattle.table_update.specs.Update.{Found, IsUnfit, LoadedEnds, MayRun, Updates, first_other, first_other_in, is_kept}
+use Rattle.table_update.specs.Stands.{HasStanding, Stands}
+use Rattle.table_update.specs.Table.{definition_of}
+use Rattle.table_update.specs.Update.{Found, IsUnfit, LoadedEnds, MayRun, Updates, first_other_in, is_kept}
 use Rattle.table_update.specs.declared.end.UpdateEnd.TheVariants.{Unfit}
 use Rattle.table_update.specs.declared.table.AppendTable.{AppendTable}
 

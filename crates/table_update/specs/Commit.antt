@@ -16,7 +16,7 @@ use Rattle.commit_gate.specs.AtRest.{log_end}
 use Rattle.table_update.specs.declared.end.UpdateEnd.{UpdateEnd}
 use Rattle.table_update.specs.declared.end.UpdateEnd.TheVariants.{LoadFailed, LandingFailed, Removed, Full, VersionFull, CommitFailed, Current, Memory}
 use Rattle.table_update.specs.declared.table.AppendTable.{AppendTable}
-use Rattle.table_update.specs.Flow.{HasRoom, IsFull}
+use Rattle.table_update.specs.Flow.{HasRoom, IsPastRoom}
 use Rattle.table_update.specs.Update.{Flows, LoadedEnds, IsSuccess, end_after}
 
 -- no commit answers that the number of its log is the last one
@@ -36,7 +36,7 @@ end_of_commit store.Memory = Memory
 abbrev pub CommitEnds : State → ℕ → ℕ → Payload → Result (Unit {0}) UpdateEnd → Type 0
 CommitEnds state room at payload (Ok done) = WithinVersions state payload × HasRoom room at payload
 CommitEnds state room at payload (Err CommitFailed) = WithinVersions state payload × HasRoom room at payload
-CommitEnds state room at payload (Err (Full end limit)) = WithinVersions state payload × IsFull room at payload end limit
+CommitEnds state room at payload (Err (Full end limit)) = WithinVersions state payload × IsPastRoom room at payload end limit
 CommitEnds state room at payload (Err (VersionFull name)) = states.IsAtLimit state payload name
 CommitEnds state room at payload (Err Memory) = Unit {0}
 CommitEnds state room at payload (Err end) = ⊥

@@ -55,8 +55,8 @@ abbrev pub HasRoom : ℕ → ℕ → Payload → Type 0
 HasRoom room at payload = behind at payload + 1 ≤ room
 
 -- it doesn't: with them it would end past its room
-abbrev pub IsFull : ℕ → ℕ → Payload → ℕ → ℕ → Type 0
-IsFull room at payload end limit = (room < end) × (end ≡ behind at payload + 1) × (limit ≡ room)
+abbrev pub IsPastRoom : ℕ → ℕ → Payload → ℕ → ℕ → Type 0
+IsPastRoom room at payload end limit = (room < end) × (end ≡ behind at payload + 1) × (limit ≡ room)
 
 -- ---- how the flow ends
 
@@ -82,7 +82,7 @@ FindsNone table files places end = ⊥
 -- the ends before a commit of what is new is tried
 abbrev pub Stops : AppendTable → List LandingFile → ℕ → ℕ → Dataset → List FilePlace → UpdateEnd → Type 0
 Stops table files room at dataset places (Full end limit) =
-    HasNews table files places × HasVersion dataset × IsFull room at (batch table files places) end limit
+    HasNews table files places × HasVersion dataset × IsPastRoom room at (batch table files places) end limit
 Stops table files room at dataset places (VersionFull name) = HasNews table files places × (name ≡ table.name) × (2 ^ 62 ≤ version_of dataset)
 Stops table files room at dataset places end = FindsNone table files places end
 

@@ -13,7 +13,7 @@ use Rattle.store_core.specs.declared.refusal.StoreRefusal.TheVariants as store
 use Rattle.table_update.specs.declared.end.UpdateEnd.{UpdateEnd}
 use Rattle.table_update.specs.declared.end.UpdateEnd.TheVariants.{LoadFailed, Foreign, Damaged, Removed, Changed, Unfit, Full, CommitFailed, Current, Completed, Memory}
 use Rattle.table_update.specs.declared.table.AppendTable.{AppendTable}
-use Rattle.table_update.specs.Flow.{behind, HasRoom, IsFull, FlowEnds}
+use Rattle.table_update.specs.Flow.{behind, HasRoom, IsPastRoom, FlowEnds}
 use Rattle.table_update.specs.Table.{define, HoldsTable, IsDefinedBy}
 
 -- what an update finds: the bytes of the store's file, how long that file may get, and the landing files
@@ -106,7 +106,7 @@ NoTableEnds state end = ⊥
 
 -- how it ends where the table isn't there and its definition isn't acknowledged
 abbrev pub DefineEnds : AppendTable → ℕ → ℕ → List Payload → List Payload → UpdateEnd → Type 0
-DefineEnds table room at acked tried (Full end limit) = IsFull room at (define table) end limit × (acked ≡ []) × (tried ≡ [])
+DefineEnds table room at acked tried (Full end limit) = IsPastRoom room at (define table) end limit × (acked ≡ []) × (tried ≡ [])
 DefineEnds table room at acked tried CommitFailed = HasRoom room at (define table) × (acked ≡ []) × (tried ≡ define table ∷ [])
 DefineEnds table room at acked tried Memory = (acked ≡ []) × (tried ≡ [])
 DefineEnds table room at acked tried end = ⊥

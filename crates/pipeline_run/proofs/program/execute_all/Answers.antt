@@ -2,7 +2,7 @@ use Rattle.std.proofs.Common.{rules, ◌≡◌, ◌≢◌, true, false, get_or, 
 use Rattle.std.proofs.lemmas.List.{get_or_default}
 use Rattle.pipeline_run.specs.declared.command.Command.TheVariants.{Validate}
 use Rattle.pipeline_run.specs.declared.outcome.Status.TheVariants as status
-use Rattle.pipeline_run.specs.Run.{Around, Standing}
+use Rattle.pipeline_run.specs.Run.{Around, RunState}
 use Rattle.pipeline_run.proofs.LeaveLemmas.{leaves_itself, leaves_both}
 use Rattle.pipeline_run.proofs.RunLemmas.{begins, next_command, last_command, all_commands, is_ok_of, nothing_printed, prints_both, stopped_later}
 use Rattle.pipeline_run.proofs.SpareLemmas.{goes_further, spared_itself, spared_on, went_further, went_itself}
@@ -15,9 +15,9 @@ returns-then-ne-clause-runs g c text disk landing sink =
     let f = g.L.Landing in
     let s = g.S.Sink in
     let around : Around = record { text = t.left c.args.text.now; room = d.room c.args.disk.now; landing = f.present c.args.landing.now } in
-    let start : Standing = record { file = (d.state c.args.disk.now).now.left; printed = s.written c.args.out.now; faults = record { text = t.faults c.args.text.now; disk = d.faults c.args.disk.now; landing = f.faults c.args.landing.now; sink = s.faults c.args.out.now } } in
-    let here : Standing = record { file = (d.state c.loop-command.disk).now.left; printed = s.written c.loop-command.out; faults = record { text = t.faults c.loop-command.text; disk = d.faults c.loop-command.disk; landing = f.faults c.loop-command.landing; sink = s.faults c.loop-command.out } } in
-    let mid : Standing = record { file = (d.state c.execute-answer.new.disk).now.left; printed = s.written c.execute-answer.new.out; faults = record { text = t.faults c.execute-answer.new.text; disk = d.faults c.execute-answer.new.disk; landing = f.faults c.execute-answer.new.landing; sink = s.faults c.execute-answer.new.out } } in
+    let start : RunState = record { file = (d.state c.args.disk.now).now.left; printed = s.written c.args.out.now; faults = record { text = t.faults c.args.text.now; disk = d.faults c.args.disk.now; landing = f.faults c.args.landing.now; sink = s.faults c.args.out.now } } in
+    let here : RunState = record { file = (d.state c.loop-command.disk).now.left; printed = s.written c.loop-command.out; faults = record { text = t.faults c.loop-command.text; disk = d.faults c.loop-command.disk; landing = f.faults c.loop-command.landing; sink = s.faults c.loop-command.out } } in
+    let mid : RunState = record { file = (d.state c.execute-answer.new.disk).now.left; printed = s.written c.execute-answer.new.out; faults = record { text = t.faults c.execute-answer.new.text; disk = d.faults c.execute-answer.new.disk; landing = f.faults c.execute-answer.new.landing; sink = s.faults c.execute-answer.new.out } } in
     let before = c.loop-command.invariant in
     let executed = rw (before.room, before.present landing) at (c.execute-answer.ensures.executes text disk landing sink (t.left c.args.text.now) (before.knows text)) in
     let failed : c.execute-answer.result ≢ status.Ok = λ e. (let same : true ≡ false = rw e at c.if-ne.ensures in cc) in
@@ -71,7 +71,7 @@ loop-command-init g c =
     let f = g.L.Landing in
     let s = g.S.Sink in
     let around : Around = record { text = t.left c.args.text.now; room = d.room c.args.disk.now; landing = f.present c.args.landing.now } in
-    let start : Standing = record { file = (d.state c.args.disk.now).now.left; printed = s.written c.args.out.now; faults = record { text = t.faults c.args.text.now; disk = d.faults c.args.disk.now; landing = f.faults c.args.landing.now; sink = s.faults c.args.out.now } } in
+    let start : RunState = record { file = (d.state c.args.disk.now).now.left; printed = s.written c.args.out.now; faults = record { text = t.faults c.args.text.now; disk = d.faults c.args.disk.now; landing = f.faults c.args.landing.now; sink = s.faults c.args.out.now } } in
     record {
       runs = λ text disk landing sink. begins d.tells_moments around c.args.commands.now start (d.state c.args.disk.now);
       knows = λ text. refl;
@@ -100,9 +100,9 @@ loop-command-preserved g c =
     let s = g.S.Sink in
     let whole = t.left c.args.text.now in
     let around : Around = record { text = t.left c.args.text.now; room = d.room c.args.disk.now; landing = f.present c.args.landing.now } in
-    let start : Standing = record { file = (d.state c.args.disk.now).now.left; printed = s.written c.args.out.now; faults = record { text = t.faults c.args.text.now; disk = d.faults c.args.disk.now; landing = f.faults c.args.landing.now; sink = s.faults c.args.out.now } } in
-    let here : Standing = record { file = (d.state c.loop-command.disk).now.left; printed = s.written c.loop-command.out; faults = record { text = t.faults c.loop-command.text; disk = d.faults c.loop-command.disk; landing = f.faults c.loop-command.landing; sink = s.faults c.loop-command.out } } in
-    let mid : Standing = record { file = (d.state c.execute-answer.new.disk).now.left; printed = s.written c.execute-answer.new.out; faults = record { text = t.faults c.execute-answer.new.text; disk = d.faults c.execute-answer.new.disk; landing = f.faults c.execute-answer.new.landing; sink = s.faults c.execute-answer.new.out } } in
+    let start : RunState = record { file = (d.state c.args.disk.now).now.left; printed = s.written c.args.out.now; faults = record { text = t.faults c.args.text.now; disk = d.faults c.args.disk.now; landing = f.faults c.args.landing.now; sink = s.faults c.args.out.now } } in
+    let here : RunState = record { file = (d.state c.loop-command.disk).now.left; printed = s.written c.loop-command.out; faults = record { text = t.faults c.loop-command.text; disk = d.faults c.loop-command.disk; landing = f.faults c.loop-command.landing; sink = s.faults c.loop-command.out } } in
+    let mid : RunState = record { file = (d.state c.execute-answer.new.disk).now.left; printed = s.written c.execute-answer.new.out; faults = record { text = t.faults c.execute-answer.new.text; disk = d.faults c.execute-answer.new.disk; landing = f.faults c.execute-answer.new.landing; sink = s.faults c.execute-answer.new.out } } in
     let before = c.loop-command.invariant in
     let facts = c.execute-answer.ensures in
     let ok : c.execute-answer.result ≡ status.Ok = is_ok_of (c.execute-answer.result) c.if-ne.ensures in
@@ -142,6 +142,6 @@ returns-clause-runs g c text disk landing sink =
     let f = g.L.Landing in
     let s = g.S.Sink in
     let around : Around = record { text = t.left c.args.text.now; room = d.room c.args.disk.now; landing = f.present c.args.landing.now } in
-    let start : Standing = record { file = (d.state c.args.disk.now).now.left; printed = s.written c.args.out.now; faults = record { text = t.faults c.args.text.now; disk = d.faults c.args.disk.now; landing = f.faults c.args.landing.now; sink = s.faults c.args.out.now } } in
-    let here : Standing = record { file = (d.state c.loop-command.disk).now.left; printed = s.written c.loop-command.out; faults = record { text = t.faults c.loop-command.text; disk = d.faults c.loop-command.disk; landing = f.faults c.loop-command.landing; sink = s.faults c.loop-command.out } } in
+    let start : RunState = record { file = (d.state c.args.disk.now).now.left; printed = s.written c.args.out.now; faults = record { text = t.faults c.args.text.now; disk = d.faults c.args.disk.now; landing = f.faults c.args.landing.now; sink = s.faults c.args.out.now } } in
+    let here : RunState = record { file = (d.state c.loop-command.disk).now.left; printed = s.written c.loop-command.out; faults = record { text = t.faults c.loop-command.text; disk = d.faults c.loop-command.disk; landing = f.faults c.loop-command.landing; sink = s.faults c.loop-command.out } } in
     all_commands d.tells_moments around c.args.commands.now c.loop-command.command-index start here (d.state c.args.disk.now) (d.state c.loop-command.disk) c.loop-command-test.false (c.loop-command.invariant.runs text disk landing sink)

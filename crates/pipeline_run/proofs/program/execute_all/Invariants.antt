@@ -9,7 +9,7 @@ use Rattle.store_core.specs.Spared.{IsRefusedFile, IsSpared}
 use Rattle.table_update.specs.declared.table.AppendTable.{AppendTable}
 use Rattle.table_update.specs.Stands.{IsStanding}
 use Rattle.pipeline_run.specs.Pipeline.{text_limit, Knows}
-use Rattle.pipeline_run.specs.Run.{Around, PrintsOn, Standing}
+use Rattle.pipeline_run.specs.Run.{Around, PrintsOn, RunState}
 use Rattle.pipeline_run.specs.Table.{AsksFor}
 use Rattle.pipeline_run.proofs.RunLemmas.{GoesSo}
 use Rattle.pipeline_run.proofs.SpareLemmas.{WentOn}
@@ -22,8 +22,8 @@ invariant-loop-command g l =
     let f = g.L.Landing in
     let s = g.S.Sink in
     let around : Around = record { text = t.left l.initial.text; room = d.room l.initial.disk; landing = f.present l.initial.landing } in
-    let start : Standing = record { file = (d.state l.initial.disk).now.left; printed = s.written l.initial.out; faults = record { text = t.faults l.initial.text; disk = d.faults l.initial.disk; landing = f.faults l.initial.landing; sink = s.faults l.initial.out } } in
-    let here : Standing = record { file = (d.state l.disk).now.left; printed = s.written l.out; faults = record { text = t.faults l.text; disk = d.faults l.disk; landing = f.faults l.landing; sink = s.faults l.out } } in
+    let start : RunState = record { file = (d.state l.initial.disk).now.left; printed = s.written l.initial.out; faults = record { text = t.faults l.initial.text; disk = d.faults l.initial.disk; landing = f.faults l.initial.landing; sink = s.faults l.initial.out } } in
+    let here : RunState = record { file = (d.state l.disk).now.left; printed = s.written l.out; faults = record { text = t.faults l.text; disk = d.faults l.disk; landing = f.faults l.landing; sink = s.faults l.out } } in
     record {
       runs : t.tells → d.tells → f.tells → s.tells → GoesSo d.tells_moments around l.commands l.command-index start here (d.state l.initial.disk) (d.state l.disk);
       knows : t.tells → Knows (t.left l.initial.text) l.known (t.left l.text);

@@ -1,4 +1,4 @@
-use Rattle.std.proofs.Common.{◌≤◌, arith}
+use Rattle.std.proofs.Common.{arith}
 use Rattle.commit_gate.specs.AtRest.{log_end}
 use Rattle.disk_model.specs.declared.disk.Side.TheVariants.{Right}
 use Rattle.commit_gate.proofs.RestLemmas.{leaves_on}
