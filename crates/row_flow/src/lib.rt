@@ -12,3 +12,6 @@ mod result;
 
 pub use batch::{Batch, EventBatch, append_batch, event_batch};
 pub use input::Input;
+
+#[cfg(test)]
+mod tests;
