@@ -258,3 +258,38 @@ turn_net query xs rows change touched turn =
 pub turn_counts : (query : Query) (xs : List Expectation) (rows : List Row) (change : Change) (touched : List Row) (turn : IsTurn query xs rows change touched)
     → turn.before.counts ≡ counts xs (result_rows query (shares_of query (in_row_order rows)))
 turn_counts query xs rows change touched turn = ap (λ (before : Viewed). before.counts) (quiet query xs rows turn.before turn.stands).is
+
+-- ---- nothing stopped what was there
+
+part-quiet : {S : Type 0} (h : Row → List S) (part whole : List Row) → IsPart part whole → flat_map h whole ≡ [] → flat_map h (in_row_order part) ≡ []
+part-quiet h part whole within none =
+    same_stops h (in_row_order part) [] (order-in_row_order part) tt (λ a l. omega (arith, count-in_row_order a part, within.sums (one a), quiet_count h a whole none l))
+
+absent : (there : Bool) (n : ℕ) → ◌≡◌ {A = ℕ} (cond there 1 0) 0 → cond there n 0 ≡ 0
+absent true n e = absurd (let none : ◌≡◌ {A = ℕ} 1 0 = e in omega (arith, none))
+absent false n e = refl
+
+sums-quiet : (query : Query) (touched : List Row) (old out more : List Share) → Touches touched out more → flat_map (sum_stops query old) (groups_of query old) ≡ []
+    → flat_map (sum_stops query old) (filter (is_there query old) touched) ≡ []
+sums-quiet query touched old out more touches none =
+    same_stops (sum_stops query old) (filter (is_there query old) touched) [] (order-filter (is_there query old) touched touches.sorted) tt
+    (λ a l. count-filter (is_there query old) a touched ∙ absent (is_there query old a) (count_of a touched) (sym ((has_groups query old).count a) ∙ quiet_count (sum_stops query old) a (groups_of query old) none l))
+
+quiet-by : (query : Query) (touched : List Row) (old out more : List Share) (test : Bool) → is_grouped query ≡ test → (is_grouped query ≡ true → Touches touched out more)
+    → (is_grouped query ≡ true → flat_map (sum_stops query old) (groups_of query old) ≡ []) → (if test then first_of (flat_map (sum_stops query old) (filter (is_there query old) touched)) else None) ≡ None
+quiet-by query touched old out more true e touches none = ap first_of (sums-quiet query touched old out more (touches e) (none e))
+quiet-by query touched old out more false e touches none = refl
+
+pub turn_sums : (query : Query) (xs : List Expectation) (rows : List Row) (change : Change) (touched : List Row) → IsTurn query xs rows change touched
+    → part_stop query (shares_of query (in_row_order rows)) touched [] ≡ None
+turn_sums query xs rows change touched turn =
+    quiet-by query touched (shares_of query (in_row_order rows)) (shares_of query change.removed) (shares_of query change.added) (is_grouped query) refl turn.touches (quiet query xs rows turn.before turn.stands).no_sum
+
+pub turn_verdicts : (query : Query) (xs : List Expectation) (rows : List Row) (change : Change) (touched : List Row) → IsTurn query xs rows change touched
+    → row_stop xs (part_rows query (shares_of query (in_row_order rows)) touched (shares_of query change.removed)) ≡ None
+turn_verdicts query xs rows change touched turn =
+    let old = shares_of query (in_row_order rows) in
+    let part = part_rows query old touched (shares_of query change.removed) in
+    let verdict = λ (row : Row). verdict_stop row (admit xs row) in
+    let within : IsPart part (result_rows query old) = part-by query touched old (shares_of query change.removed) (shares_of query change.added) (is_grouped query) refl turn.touches (turn_part query xs rows change touched turn) in
+    ap first_of (one_each verdict (in_row_order part) ∙ part-quiet (λ a. option_to_list (verdict a)) part (result_rows query old) within (sym (one_each verdict (result_rows query old)) ∙ (quiet query xs rows turn.before turn.stands).no_verdict))

@@ -1,4 +1,4 @@
-ghost use Rattle.std.specs.Prelude.{◌≡◌, List};
+ghost use Rattle.std.specs.Prelude.{◌≡◌, List, [], None};
 ghost use Rattle.value_core.specs.declared.change.Change.{Change};
 ghost use Rattle.value_core.specs.Bags.{changed, in_row_order, net_change};
 ghost use Rattle.value_core.specs.Changes.{Holds};
@@ -35,6 +35,12 @@ pub fn a_view_turns_by_its_change()
         → (turn : IsTurn query xs rows change touched)
         → net_change turn.before.rows (kept_of xs (result_over query (changed rows change)))
         ≡ net_change (kept_of xs (part_over query rows touched change.removed)) (kept_of xs (part_over query (changed rows change) touched change.added)) }
+    ensures sums_before { (query : Query) (xs : List Expectation) (rows : List Row) (change : Change) (touched : List Row)
+        → IsTurn query xs rows change touched
+        → part_stop query (shares_of query (in_row_order rows)) touched [] ≡ None }
+    ensures verdicts_before { (query : Query) (xs : List Expectation) (rows : List Row) (change : Change) (touched : List Row)
+        → IsTurn query xs rows change touched
+        → row_stop xs (part_over query rows touched change.removed) ≡ None }
     ensures before { (query : Query) (xs : List Expectation) (rows : List Row) (change : Change) (touched : List Row)
         → (turn : IsTurn query xs rows change touched)
         → turn.before.counts ≡ counts xs (result_over query rows) }

@@ -1,0 +1,11 @@
+pub mod BoundLemmas
+pub mod DifferLemmas
+pub mod KeyLemmas
+pub mod LookLemmas
+pub mod MiddleLemmas
+pub mod PlaceLemmas
+pub mod SpliceLemmas
+pub mod TouchLemmas
+pub mod TurnLemmas
+pub mod WholeLemmas
+pub mod ZoneLemmas

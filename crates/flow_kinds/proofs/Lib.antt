@@ -1,0 +1,5 @@
+pub mod AppendFits
+pub mod EventFits
+pub mod FitTools
+pub mod TargetFits
+pub mod ViewFits
