@@ -5,10 +5,10 @@ use Rattle.value_core.specs.Order.{Row, row_order, same_row}
 use Rattle.plan_core.specs.declared.query.Query.{Query}
 use Rattle.flow_model.specs.Views.{Share, members_of, group_row, groups_of, sum_stops}
 use Rattle.view_groups.specs.declared.group.Group.{Group}
-use Rattle.std.specs.Prelude.{OnOk, is_err, is_some, IfSome, Some, None, Bool, true, false, Result, Ok, Err, cond, ◌+◌}
+use Rattle.std.specs.Prelude.{Option, OnOk, is_err, is_some, IfSome, Some, None, Bool, true, false, Result, Ok, Err, cond, ◌+◌}
 use Rattle.std.specs.BTreeMap.{is_at}
 use Rattle.std.specs.List.Sorted.{IsStrictlySortedBy}
-use Rattle.std.specs.Map.{keys_of}
+use Rattle.std.specs.Map.{keys_of, lookup}
 use Rattle.std.proofs.Common.{arith}
 use Rattle.std.proofs.lemmas.Map.{lookup-none}
 use Rattle.std.proofs.lemmas.Map.Entries.{lookup_head, lookup_tail, none_past_head}
@@ -101,22 +101,30 @@ unfolding IsStrictlySortedBy
 keys_in_order [] sorted = tt
 keys_in_order (x ∷ xs) sorted = (least-of x xs sorted.0, keys_in_order xs sorted.1)
 
-count-key-by : (a : Row) (e : Row × Group) (es : List (Row × Group)) (test : Bool) → same_row a e.0 ≡ test → IsStrictlySortedBy row_order (keys_of (e ∷ es)) → count_of a (keys_of es) ≡ cond (is_some (group_at a es)) 1 0
-    → cond test 1 0 + count_of a (keys_of es) ≡ cond (is_some (group_at a (e ∷ es))) 1 0
+-- the value at a key of a map by rows
+abbrev pub value_at : {V : Type 0} → Row → List (Row × V) → Option V
+value_at key entries = lookup (is_at (row_order key)) entries
+
+pub none_behind : {V : Type 0} (q : Row) (e : Row × V) (es : List (Row × V)) → IsStrictlySortedBy row_order (keys_of (e ∷ es)) → same_row q e.0 ≡ true → value_at q es ≡ None
+none_behind q e es sorted same = lookup-none (is_at (row_order q)) es (none_past_head same_row_laws q e es (IsDistinct-from_sorted row_order (keys_of (e ∷ es)) sorted) same)
+
+count-key-by : {V : Type 0} (a : Row) (e : Row × V) (es : List (Row × V)) (test : Bool) → same_row a e.0 ≡ test → IsStrictlySortedBy row_order (keys_of (e ∷ es)) → count_of a (keys_of es) ≡ cond (is_some (value_at a es)) 1 0
+    → cond test 1 0 + count_of a (keys_of es) ≡ cond (is_some (value_at a (e ∷ es))) 1 0
 count-key-by a e es true same sorted behind =
-    let here : group_at a (e ∷ es) ≡ Some e.1 = lookup_head (is_at (row_order a)) e es same in
-    let none : count_of a (keys_of es) ≡ 0 = behind ∙ ap (λ o. cond (is_some o) 1 0) (none-past a e es sorted same) in
+    let here : value_at a (e ∷ es) ≡ Some e.1 = lookup_head (is_at (row_order a)) e es same in
+    let none : count_of a (keys_of es) ≡ 0 = behind ∙ ap (λ o. cond (is_some o) 1 0) (none_behind a e es sorted same) in
     omega (arith, none) ∙ ap (λ o. cond (is_some o) 1 0) (sym here)
 count-key-by a e es false same sorted behind = omega (arith) ∙ behind ∙ ap (λ o. cond (is_some o) 1 0) (sym (lookup_tail (is_at (row_order a)) e es same))
 
-count-keys : (a : Row) (entries : List (Row × Group)) → IsStrictlySortedBy row_order (keys_of entries) → count_of a (keys_of entries) ≡ cond (is_some (group_at a entries)) 1 0
-count-keys a [] sorted = refl
-count-keys a (e ∷ es) sorted = count-cons a e.0 (keys_of es) ∙ count-key-by a e es (same_row a e.0) refl sorted (count-keys a es (sorted_tail row_order e.0 (keys_of es) sorted))
+-- how often a row is a key
+pub count_keys : {V : Type 0} (a : Row) (entries : List (Row × V)) → IsStrictlySortedBy row_order (keys_of entries) → count_of a (keys_of entries) ≡ cond (is_some (value_at a entries)) 1 0
+count_keys a [] sorted = refl
+count_keys a (e ∷ es) sorted = count-cons a e.0 (keys_of es) ∙ count-key-by a e es (same_row a e.0) refl sorted (count_keys a es (sorted_tail row_order e.0 (keys_of es) sorted))
 
 -- the keys of the map are the groups of the shares
 pub keys_are_groups : (query : Query) (entries : List (Row × Group)) (shares : List Share) → IsStrictlySortedBy row_order (keys_of entries) → GroupsFor query entries shares → keys_of entries ≡ groups_of query shares
 keys_are_groups query entries shares sorted groups = one_order (keys_of entries) (groups_of query shares) (keys_in_order (keys_of entries) sorted) (order_groups query shares)
-    (λ a. count-keys a entries sorted ∙ ap (λ t. cond t 1 0) (groups.there a) ∙ sym ((has_groups query shares).count a))
+    (λ a. count_keys a entries sorted ∙ ap (λ t. cond t 1 0) (groups.there a) ∙ sym ((has_groups query shares).count a))
 
 rows-map : (query : Query) (shares : List Share) (entries : List (Row × Group)) → rows_by query (λ key. members_of key shares) entries ≡ map (group_row query shares) (keys_of entries)
 rows-map query shares [] = refl

@@ -1,11 +1,12 @@
 ghost use Rattle.std.specs.Prelude.{◌≡◌, ◌==◌, ◌||◌, not, map, [], ◌∷◌, ◌++◌, List, None, IfOk, OnOk};
 ghost use Rattle.flow_model.specs.Views as views;
-ghost use Rattle.view_groups.specs.AllGroups.{AllAnswers, GivesRow, GroupFrom, IsKeyed, IsWithout, KeepsShares, PutsBack, RowsAnswers, StopFor, TouchesGroup, first_fault};
+ghost use Rattle.view_groups.specs.AllGroups.{AllAnswers, GivesRow, GroupFrom, IsKeyed, IsWithout, KeepsShares, PutsBack, ResultAnswers, RowsAnswers, StopFor, TouchesGroup, first_fault};
 ghost use Rattle.std.specs.BTreeMap.{IsOrdered};
 ghost use Rattle.value_core.specs.Order.{row_order};
 ghost use Rattle.view_groups.specs.Shares.{seen};
 ghost use Rattle.view_groups.specs.Groups.{KeepsGroup};
 ghost use Rattle.plan_core.specs.declared.query.Item.{Item};
+ghost use Rattle.plan_core.specs.declared.query.Query.{Query};
 
 use crate::cell::GroupEnd;
 use crate::group::Group;
@@ -152,9 +153,16 @@ impl Groups {
         Ok(Turned { before, after })
     }
 
-    /// The result rows of all groups, by their keys. Fails with the first exact total of the least group that is no BIGINT,
-    /// and for want of memory.
-    fn rows(&self, alloc: Global) -> Result<Rows, StopOr>
+    /// The result rows of all groups, by their keys. The stop is the first exact total that is no BIGINT, of the least group
+    /// that has one. Memory comes where none is found.
+    pub fn rows(&self, alloc: Global) -> Result<Rows, StopOr>
+        ensures { (query : Query) (shares : List views.Share) → KeepsShares query self.now shares → ResultAnswers query shares result }
+    {
+        self.all_rows(alloc)
+    }
+
+    /// The same, of whatever members the groups keep.
+    fn all_rows(&self, alloc: Global) -> Result<Rows, StopOr>
         ensures ordered { IsOrdered row_order self.now.map }
         ensures answers { AllAnswers self.now.map.entries result }
     {
