@@ -11,7 +11,7 @@ use Rattle.plan_core.specs.Sound.{dataset_named}
 use Rattle.state_model.specs.After.{updated}
 use Rattle.state_model.specs.Dataset.{Dataset, State, dataset_of, is_named}
 use Rattle.state_steps.specs.Stands.{AllStand, DatasetStands}
-use Rattle.state_steps.specs.Steps.{streams_of}
+use Rattle.state_steps.specs.Parts.{streams_of}
 use Rattle.state_steps.proofs.KeepLemmas.{AllGo, KeepsAll, dataset_stays, origins_grow, origins_keep}
 use Rattle.state_steps.proofs.Lookups.{Goes, some_same}
 use Rattle.state_steps.proofs.VersionLemmas.{IsMore, IsStreamedOn}

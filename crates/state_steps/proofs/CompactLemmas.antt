@@ -68,7 +68,7 @@ module _ (was : State) where
       let last : d.table.base ≤ version_of d = omega arith in
       (le-max_left d.table.base (least_of (version_of d) (readers_of was d.definition.name)), max-le last (least_below (version_of d) (readers_of was d.definition.name)))
 
-  later : (d : Dataset) → KeepsLater d.table (base_for was d)
+  pub later : (d : Dataset) → KeepsLater d.table (base_for was d)
   later d = keeps_later d.table (base_for was d) (kept_base d)
 
   -- its rows now are as before

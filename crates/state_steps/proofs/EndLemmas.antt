@@ -26,11 +26,11 @@ pub has_name : (name : List ℕ) (state : State) (old : Dataset) → dataset_of 
 has_name name [] old e = cc
 has_name name (d ∷ ds) old e = named_by name d ds old (is_named name d) refl (has_name name ds old) e
 
-folded_is : (a b : List ℕ) → same_name a b ≡ true → folded a ≡ folded b
+pub folded_is : (a b : List ℕ) → same_name a b ≡ true → folded a ≡ folded b
 folded_is a b e = (bytes_eq-Decides (folded a) (folded b)).0 e
 
 -- names that fold to one name find one part
-one_part : (parts : List Part) (a b : List ℕ) → folded a ≡ folded b → dataset_named parts a ≡ dataset_named parts b
+pub one_part : (parts : List Part) (a b : List ℕ) → folded a ≡ folded b → dataset_named parts a ≡ dataset_named parts b
 one_part parts a b e = ap (λ (f : List ℕ). find (λ (part : Part). bytes_eq (folded part.name) f) parts) e
 
 some_end : (o p : Option Dataset) (v : ℕ) → ((old : Dataset) → o ≡ Some old → p ≡ Some old) → IsSomeAnd o (λ source. v ≡ version_of source) → IsSomeAnd p (λ source. v ≡ version_of source)

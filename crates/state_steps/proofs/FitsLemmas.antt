@@ -43,7 +43,7 @@ use Rattle.commit_payloads.specs.declared.take.Refresh.{Refresh}
 use Rattle.commit_payloads.specs.declared.take.Take.{Take}
 use Rattle.state_model.specs.After.{no_tally}
 use Rattle.state_model.specs.Dataset.{Dataset, State, content, cursor_in, cursor_of, dataset_of, definitions_of, flow_of, is_defined, is_flow, version_of}
-use Rattle.state_model.specs.Follows.{Fits, FitsDefine, FitsRefresh, FitsTake, FlowMoves, IsReached, MovesOn, VersionMoves, all_fit, are_distinct, are_new, counts_fit, event_fits, is_append, is_append_body, is_view, tally_fits}
+use Rattle.state_model.specs.Follows.{Fits, FitsDefine, FitsRefresh, FitsTake, FlowMoves, IsReached, Keeps, MovesOn, VersionMoves, all_fit, are_distinct, are_new, counts_fit, event_fits, is_append, is_append_body, is_view, tally_fits}
 use Rattle.state_steps.specs.Consumed.{CursorStands, IsKept, consumed}
 use Rattle.state_steps.proofs.FeedTakes.{kept_sorts}
 use Rattle.state_steps.specs.Parts.{IsOf, stored_body, stored_expectation, stored_flow, stored_flows, stored_origin}
@@ -108,7 +108,7 @@ less_free kept gs g free a b ha hb = free a b (keeps a kept ha) (keeps b kept hb
         by true q r f k = refl
         by false q r f k = f k
 
-fresh_new : (kept gs : List Event) → IsClashFree (kept ++ gs) → are_new kept (fresh kept gs) ≡ true
+pub fresh_new : (kept gs : List Event) → IsClashFree (kept ++ gs) → are_new kept (fresh kept gs) ≡ true
 fresh_new kept [] free = refl
 fresh_new kept (g ∷ gs) free =
     new_by g kept gs (list_any (same_event g) kept) refl free (fresh_new kept gs (less_free kept gs g free))
@@ -213,12 +213,12 @@ module _ (ever : List LandingFile) (state : State) (part : Part) (dataset : Data
   body_fits (body.View query) body_is flows_are stood takes = absurd takes
 
 -- the parts that are found with a dataset are those with which it stands
-found_stands : (parts : List Part) (ever : List LandingFile) (state : State) (name : List ℕ) (part : Part) (dataset : Dataset) → Stands parts ever state → IsFound parts state name part dataset → DatasetStands ever state part dataset
+pub found_stands : (parts : List Part) (ever : List LandingFile) (state : State) (name : List ℕ) (part : Part) (dataset : Dataset) → Stands parts ever state → IsFound parts state name part dataset → DatasetStands ever state part dataset
 found_stands parts ever state name part dataset stands found =
     let pair = paired ever state parts state name stands.each dataset found.dataset_is in
     subst (λ p. DatasetStands ever state p dataset) (some_same pair.0 part (sym pair.1 ∙ found.part_is)) pair.2
 
-some_fits : (P : Dataset → Type 0) (o : Option Dataset) (dataset : Dataset) → o ≡ Some dataset → P dataset → IsSomeAnd o P
+pub some_fits : (P : Dataset → Type 0) (o : Option Dataset) (dataset : Dataset) → o ≡ Some dataset → P dataset → IsSomeAnd o P
 some_fits P o dataset e p = subst (λ w. IsSomeAnd w P) (sym e) p
 
 some_has : (P : Dataset → Type 0) (o : Option Dataset) (dataset : Dataset) → o ≡ Some dataset → IsSomeAnd o P → P dataset
@@ -241,7 +241,7 @@ one_by true cursor e = refl
 one_by false cursor e = cc
 
 -- as many counts as fit beside others
-counted : (kept more : List Tally) → counts_fit kept more ≡ true → length more ≡ length kept
+pub counted : (kept more : List Tally) → counts_fit kept more ≡ true → length more ≡ length kept
 counted [] [] e = refl
 counted [] (m ∷ ms) e = cc
 counted (k ∷ ks) [] e = cc
@@ -299,17 +299,17 @@ refresh_fits parts ever state refresh stands r shape =
 
 -- ---- definitions
 
-abbrev Differ : Part → Part → Type 0
+abbrev pub Differ : Part → Part → Type 0
 Differ a b = IsTrue (not (same_name a.name b.name))
 
 -- the pairs of a list are those of its first one with the others, and those of the others
-pairs_head : (p : Part) (ps : List Part) → AllPairs Differ (p ∷ ps) → (n : ℕ) (d : Part) → n < length ps → Differ p (slice_index_or ps n d)
+pub pairs_head : (p : Part) (ps : List Part) → AllPairs Differ (p ∷ ps) → (n : ℕ) (d : Part) → n < length ps → Differ p (slice_index_or ps n d)
 pairs_head p ps all n d h = all 0 (suc n) d (omega arith) (omega arith)
 
-pairs_tail : (p : Part) (ps : List Part) → AllPairs Differ (p ∷ ps) → AllPairs Differ ps
+pub pairs_tail : (p : Part) (ps : List Part) → AllPairs Differ (p ∷ ps) → AllPairs Differ ps
 pairs_tail p ps all i j d h k = all (suc i) (suc j) d (omega arith) (omega arith)
 
-not_same : (b : Bool) → IsTrue (not b) → b ≡ false
+pub not_same : (b : Bool) → IsTrue (not b) → b ≡ false
 not_same true e = cc
 not_same false e = refl
 
@@ -337,7 +337,7 @@ distinct_list (p ∷ ps) (d ∷ ds) all are =
     let none : find (is_defined d.name) ds ≡ None = none_named d.name ps ds are.1 (λ n q h. ap (λ (k : List ℕ). same_name k (slice_index_or ps n q).name) are.0.name ∙ not_same (same_name p.name (slice_index_or ps n q).name) (pairs_head p ps all n q h)) in
     both_true (is_none (find (is_defined d.name) ds)) (are_distinct ds) (ap is_none none) (distinct_list ps ds (pairs_tail p ps all) are.1)
 
-stored_are : (ever : List LandingFile) (whole : State) (ps : List Part) (ds : State) → AllStand ever whole ps ds → AreOf ps (definitions_of ds)
+pub stored_are : (ever : List LandingFile) (whole : State) (ps : List Part) (ds : State) → AllStand ever whole ps ds → AreOf ps (definitions_of ds)
 stored_are ever whole [] [] all = tt
 stored_are ever whole [] (d ∷ ds) all = absurd all
 stored_are ever whole (p ∷ ps) [] all = absurd all
@@ -349,17 +349,25 @@ are_more [] qs (d ∷ ds) more a b = absurd a
 are_more (p ∷ ps) qs [] more a b = absurd a
 are_more (p ∷ ps) qs (d ∷ ds) more a b = (a.0, are_more ps qs ds more a.1 b)
 
-pub define_fits : (parts new : List Part) (ever : List LandingFile) (state : State) (is_fresh : Bool) (list : List Definition) → Stands parts ever state → Defines parts new state is_fresh list → FitsDefine state is_fresh list
-define_fits parts new ever state true list stands defines = record { distinct = distinct_list new list defines.sound.names_differ defines.begins; kept = tt }
-define_fits parts new ever state false list stands defines =
+-- the definitions are those of the parts
+pub defined_are : (parts new : List Part) (ever : List LandingFile) (state : State) (is_fresh : Bool) (list : List Definition) → Stands parts ever state → Defines parts new state is_fresh list → AreOf new list
+defined_are parts new ever state true list stands defines = defines.begins
+defined_are parts new ever state false list stands defines =
     let begins = defines.begins in
     let behind : List Definition = drop (length state) list in
     let whole : definitions_of state ++ behind ≡ list = ap (λ (l : List Definition). l ++ behind) (sym begins.0) ∙ take-append-drop (length state) list in
     let are : AreOf (parts ++ begins.1.0) (definitions_of state ++ behind) = are_more parts begins.1.0 (definitions_of state) behind (stored_are ever state parts state stands.each) begins.1.2 in
-    record {
-      distinct = distinct_list new list defines.sound.names_differ (subst (λ p. AreOf p list) (sym begins.1.1) (subst (AreOf (parts ++ begins.1.0)) whole are));
-      kept = begins.0;
-    }
+    subst (λ p. AreOf p list) (sym begins.1.1) (subst (AreOf (parts ++ begins.1.0)) whole are)
+
+define_keeps : (parts new : List Part) (state : State) (is_fresh : Bool) (list : List Definition) → Defines parts new state is_fresh list → Keeps state is_fresh list
+define_keeps parts new state true list defines = tt
+define_keeps parts new state false list defines = defines.begins.0
+
+pub define_fits : (parts new : List Part) (ever : List LandingFile) (state : State) (is_fresh : Bool) (list : List Definition) → Stands parts ever state → Defines parts new state is_fresh list → FitsDefine state is_fresh list
+define_fits parts new ever state is_fresh list stands defines = record {
+  distinct = distinct_list new list defines.sound.names_differ (defined_are parts new ever state is_fresh list stands defines);
+  kept = define_keeps parts new state is_fresh list defines;
+}
 
 -- ---- all
 

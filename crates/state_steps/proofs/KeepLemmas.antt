@@ -21,7 +21,7 @@ use Rattle.flow_model.specs.Admission.{counts}
 use Rattle.state_model.specs.Dataset.{Dataset, State, content, dataset_of}
 use Rattle.state_steps.specs.Consumed.{consumed, row_of_line, CursorStands, IsKept, IsStreamed, StreamStands, StreamsStand}
 use Rattle.state_steps.specs.Stands.{AllRunThrough, AppendStands, BodyStands, DatasetStands, FeedStands, Shows, ShowsAt, ViewStands, origins_of, out_of, seen_of, takings}
-use Rattle.state_steps.specs.Steps.{streams_of}
+use Rattle.state_steps.specs.Parts.{streams_of}
 use Rattle.state_steps.proofs.Lookups.{Goes, rows_stay, some_and}
 use Rattle.state_steps.proofs.VersionLemmas.{IsMore, IsStreamedOn, still_kept, still_streamed}
 

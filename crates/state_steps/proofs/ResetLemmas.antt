@@ -16,7 +16,8 @@ use Rattle.plan_core.specs.declared.plan.Dataset.{Dataset as Part}
 use Rattle.state_model.specs.After.{emptied, emptied_if, first_cursor, is_member, no_tally, reset}
 use Rattle.state_model.specs.Dataset.{Dataset, State, content, dataset_of, is_named}
 use Rattle.state_steps.specs.Stands.{AllStand, DatasetStands, Stands}
-use Rattle.state_steps.specs.Steps.{AreClosed, TakesAllAlong, is_named_in, streams_of}
+use Rattle.state_steps.specs.Steps.{AreClosed, TakesAllAlong, is_named_in}
+use Rattle.state_steps.specs.Parts.{streams_of}
 use Rattle.state_steps.proofs.AllLemmas.{same_more, same_streamed}
 use Rattle.state_steps.proofs.EmptyLemmas.{bare_stands, zero_counts}
 use Rattle.state_steps.proofs.KeepLemmas.{AllGo, dataset_stays, origins_keep}

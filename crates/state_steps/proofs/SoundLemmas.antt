@@ -15,7 +15,7 @@ use Rattle.commit_payloads.specs.declared.definition.StoredBody.TheVariants.{App
 use Rattle.state_model.specs.Dataset.{Dataset, State, dataset_of}
 use Rattle.state_steps.specs.Parts.{stored_body}
 use Rattle.state_steps.specs.Stands.{AllStand}
-use Rattle.state_steps.specs.Steps.{streams_of}
+use Rattle.state_steps.specs.Parts.{streams_of}
 use Rattle.state_steps.proofs.AllLemmas.{AllKeep}
 use Rattle.state_steps.proofs.KeepLemmas.{AllGo, origins_keep}
 use Rattle.state_steps.proofs.Lookups.{Goes, paired, some_same}

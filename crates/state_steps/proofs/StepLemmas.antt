@@ -15,7 +15,8 @@ use Rattle.state_model.specs.After.{refreshed, taken, updated}
 use Rattle.state_model.specs.Dataset.{Dataset, State, dataset_of}
 use Rattle.state_steps.specs.Parts.{stored_body, stored_flows}
 use Rattle.state_steps.specs.Stands.{BodyStands, DatasetStands, Stands}
-use Rattle.state_steps.specs.Steps.{BodyRefreshes, BodyTakes, IsFound, Refreshes, Takes, streams_of}
+use Rattle.state_steps.specs.Steps.{BodyRefreshes, BodyTakes, IsFound, Refreshes, Takes}
+use Rattle.state_steps.specs.Parts.{streams_of}
 use Rattle.state_steps.proofs.AllLemmas.{AllKeep, all_updated, same_more, same_streamed}
 use Rattle.state_steps.proofs.FeedTakes.{feed_takes, view_refreshes}
 use Rattle.state_steps.proofs.KeepLemmas.{KeepsAll, dataset_stays}

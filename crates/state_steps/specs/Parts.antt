@@ -1,6 +1,7 @@
 -- The parts of a stored dataset: its dataset in a checked plan.
-use Rattle.std.specs.Prelude.{◌≡◌, ℕ, List, [], ◌∷◌, map, if◌then◌else◌, option_and_then, unwrap_or}
+use Rattle.std.specs.Prelude.{◌≡◌, ⊤, ℕ, List, [], ◌∷◌, true, map, if◌then◌else◌, option_and_then, unwrap_or}
 use Rattle.value_core.specs.declared.value.Kind.{Kind}
+use Rattle.line_rows.specs.Lines.{keeps_text}
 use Rattle.plan_core.specs.declared.expectation.Action.{Action}
 use Rattle.plan_core.specs.declared.expectation.Action.TheVariants as action
 use Rattle.plan_core.specs.declared.expectation.Expectation.{Expectation}
@@ -79,3 +80,33 @@ pub record IsOf (part : Part) (definition : Definition) : Type 0 where
   pub expectations : definition.expectations ≡ map stored_expectation part.expectations
   pub flows : definition.flows ≡ stored_flows part part.body
   pub keys : definition.keys ≡ stored_keys part.body
+
+-- ---- kinds
+
+-- what the flows of a streaming table read; a view reads no stream
+abbrev pub streams_of : Body → List Origin
+streams_of (body.Append flows) = map (λ flow. flow.origin) flows
+streams_of (body.Cdc cdc) = cdc.origin ∷ []
+streams_of (body.View query) = []
+
+-- a rescued column of files is a STRING
+abbrev pub KeepsText : Origin → Type 0
+KeepsText (origin.Files dir shape) = keeps_text shape ≡ true
+KeepsText (origin.Table name) = ⊤
+
+-- so it is of each of these
+abbrev pub AllKeepText : List Origin → Type 0
+AllKeepText [] = ⊤
+AllKeepText (from ∷ origins) = KeepsText from × AllKeepText origins
+
+-- a stored sequence has the kinds that its plan gives it, and rescued text is kept in a STRING
+pub record IsTyped (plan : List Part) (part : Part) (definition : Definition) : Type 0 where
+  pub sequence : definition.sequence ≡ sequence_kinds plan part part.body
+  pub texts : AllKeepText (streams_of part.body)
+
+-- each definition is so, one part a definition
+abbrev pub AreTyped : List Part → List Part → List Definition → Type 0
+AreTyped plan [] [] = ⊤
+AreTyped plan [] (definition ∷ list) = ⊥
+AreTyped plan (part ∷ parts) [] = ⊥
+AreTyped plan (part ∷ parts) (definition ∷ list) = IsTyped plan part definition × AreTyped plan parts list

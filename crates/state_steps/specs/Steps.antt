@@ -38,7 +38,7 @@ use Rattle.state_model.specs.Saved.{compacted, saved}
 use Rattle.state_model.specs.Dataset.{Dataset, State, changes_after, content, cursor_of, dataset_of, definitions_of, version_of}
 use Rattle.state_model.specs.Follows.{FitsReset, MovesOn, counts_fit}
 use Rattle.state_steps.specs.Consumed.{rows_of_files}
-use Rattle.state_steps.specs.Parts.{IsOf, stored_origin}
+use Rattle.state_steps.specs.Parts.{AreTyped, IsOf, stored_origin, streams_of}
 
 -- ---- a batch
 
@@ -132,12 +132,6 @@ pub record Refreshes (parts : List Part) (state : State) (refresh : Refresh) : T
 
 -- ---- datasets are reset
 
--- what the flows of a streaming table read; a view reads no stream
-abbrev pub streams_of : Body → List Origin
-streams_of (body.Append flows) = map (λ flow. flow.origin) flows
-streams_of (body.Cdc cdc) = cdc.origin ∷ []
-streams_of (body.View query) = []
-
 -- a dataset of this name is one of those of these names
 abbrev pub is_named_in : List (List ℕ) → List ℕ → Bool
 is_named_in names other = list_any (λ name. same_name other name) names
@@ -177,6 +171,7 @@ Begin false parts new state list = (take (length state) list ≡ definitions_of 
 pub record Defines (parts new : List Part) (state : State) (is_fresh : Bool) (list : List Definition) : Type 0 where
   pub sound : IsSoundPlan new
   pub begins : Begin is_fresh parts new state list
+  pub typed : AreTyped new new list
 
 -- ---- steps
 

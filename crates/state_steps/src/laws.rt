@@ -1,4 +1,4 @@
-ghost use Rattle.std.specs.Prelude.{◌≡◌, ◌≤◌, List, [], ℕ, map};
+ghost use Rattle.std.specs.Prelude.{◌≡◌, ◌≤◌, Bool, List, [], ℕ, map};
 ghost use Rattle.value_core.specs.declared.cursor.Cursor.TheVariants.{Files};
 ghost use Rattle.value_core.specs.declared.cursor.FilePlace.{FilePlace};
 ghost use Rattle.value_core.specs.declared.shape.Shape.{Shape};
@@ -11,25 +11,30 @@ ghost use Rattle.landing_history.specs.Taken.{AreEnds, CanReadOn, HaveGrown, wit
 ghost use Rattle.plan_core.specs.Sound.{IsSoundPlan};
 ghost use Rattle.plan_core.specs.declared.flow.Origin.TheVariants as origin;
 ghost use Rattle.plan_core.specs.declared.plan.Dataset.{Dataset as Part};
+ghost use Rattle.commit_payloads.specs.declared.definition.Definition.{Definition};
 ghost use Rattle.commit_payloads.specs.declared.payload.Payload.TheVariants as payload;
 ghost use Rattle.commit_payloads.specs.declared.payload.Payload.{Payload};
 ghost use Rattle.commit_payloads.specs.declared.take.Refresh.{Refresh};
 ghost use Rattle.commit_payloads.specs.declared.take.Take.{Take};
+ghost use Rattle.commit_payloads.specs.Forms.{AreDefinitions, IsBase, IsBatch, IsRenewal};
 ghost use Rattle.plan_core.specs.declared.flow.Origin.{Origin};
 ghost use Rattle.value_core.specs.declared.cursor.Cursor.{Cursor};
 ghost use Rattle.state_model.specs.After.{after_payload};
 ghost use Rattle.state_model.specs.Dataset.{Dataset, State};
 ghost use Rattle.state_model.specs.Follows.{Fits};
+ghost use Rattle.state_model.specs.Saved.{compacted, saved};
 ghost use Rattle.state_steps.specs.Consumed.{row_of_line};
 ghost use Rattle.state_steps.specs.Fresh.{AllAtEnd, IsAtEnd, IsFresh, Landed, ReadsBelow, Table, table_of};
 ghost use Rattle.state_steps.specs.Parts.{IsOf, definition_of};
-ghost use Rattle.state_steps.specs.Shapes.{HasShape, written_on};
+ghost use Rattle.state_steps.specs.Runs.{AreAllOf, AreInLevels, RunsAll};
+ghost use Rattle.state_steps.specs.Shapes.{AllHaveShape, AllWithin, written_on};
 ghost use Rattle.state_steps.specs.Stands.{Stands};
-ghost use Rattle.state_steps.specs.Steps.{AreBetween, Commits, IsFound, Standing, Step, Steps};
+ghost use Rattle.state_steps.specs.Steps.{AreBetween, Commits, Defines, IsFound, Refreshes, Standing, Step, Steps, Takes};
 
 /// A law: a store without datasets stands.
 pub fn nothing_stands()
-    ensures { (ever : List LandingFile) → Stands [] ever [] }
+    ensures stands { (ever : List LandingFile) → Stands [] ever [] }
+    ensures shaped { AllHaveShape [] [] }
 {}
 
 /// A law: the stored definition of a dataset of a plan is that of its parts.
@@ -45,14 +50,42 @@ pub fn a_commit_keeps_a_store_standing()
         → Stands new ever (after_payload state body) }
 {}
 
-/// A law: a commit that is allowed, with rows and events of the shape of their dataset, follows the
-/// state of a store that stands; a base begins a log.
+/// A law: a commit that is allowed is one that follows the state of a store that stands and has its shape, where no
+/// dataset is past the limit of versions; a base begins a log. Batches, refreshes, definitions and bases have the form in
+/// which they are written.
 pub fn a_commit_follows_a_standing_store()
-    ensures { (parts new : List Part) (ever : List LandingFile) (state : State) (body : Payload)
+    ensures follows { (parts new : List Part) (ever : List LandingFile) (state : State) (body : Payload)
         → Stands parts ever state
+        → AllHaveShape parts state
         → Commits parts ever state body new
-        → HasShape state body
+        → AllWithin state
         → Fits (written_on state body) body }
+    ensures batch { (parts : List Part) (ever : List LandingFile) (state : State) (batch : Take) → Takes parts ever state batch → IsBatch batch }
+    ensures renewal { (parts : List Part) (state : State) (refresh : Refresh) → Refreshes parts state refresh → IsRenewal refresh }
+    ensures definitions { (parts new : List Part) (ever : List LandingFile) (state : State) (is_fresh : Bool) (list : List Definition)
+        → Stands parts ever state
+        → AllHaveShape parts state
+        → Defines parts new state is_fresh list
+        → AreDefinitions list }
+    ensures base { (parts : List Part) (ever : List LandingFile) (state : State)
+        → Stands parts ever state
+        → AllHaveShape parts state
+        → IsBase (saved (compacted state)) }
+{}
+
+/// A law: from a store that stands and has its shape, an allowed commit leads to one that has it, and so does each list
+/// of steps.
+pub fn steps_keep_the_shape()
+    ensures one { (parts new : List Part) (ever : List LandingFile) (state : State) (body : Payload)
+        → Stands parts ever state
+        → AllHaveShape parts state
+        → Commits parts ever state body new
+        → AllHaveShape new (after_payload state body) }
+    ensures many { (was now : Standing)
+        → Steps was now
+        → Stands was.parts was.ever was.state
+        → AllHaveShape was.parts was.state
+        → AllHaveShape now.parts now.state }
 {}
 
 /// A law: files that grow, appear or go leave a store standing.
@@ -106,6 +139,17 @@ pub fn a_commit_leaves_lesser_levels_at_their_ends()
         → ReadsBelow parts level from
         → IsAtEnd landed state from cursor
         → IsAtEnd landed (after_payload state (payload.Refresh renewal)) from cursor }
+{}
+
+/// A law: where the datasets of a store that stands run level by level, each until all that it reads was read to its
+/// end, the store stands with every cursor at its end, and so it has the tables of a full refresh.
+pub fn flows_that_run_level_by_level_end()
+    ensures { (landed : Landed) (parts order : List Part) (state last : State)
+        → Stands parts landed.ever state
+        → AreInLevels parts order
+        → AreAllOf parts order
+        → RunsAll landed parts order state last
+        → Stands parts landed.ever last × AllAtEnd landed last parts last × IsFresh landed parts (map table_of last) }
 {}
 
 /// A law: a full refresh of a sound plan has one answer.

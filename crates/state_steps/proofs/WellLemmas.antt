@@ -1,0 +1,135 @@
+-- What follows keeps each dataset as it is kept.
+use Rattle.std.proofs.Common.{◌≡◌, ℕ, ◌+◌, ◌-◌, ◌<◌, ◌^◌, List, [], ◌∷◌, ◌++◌, map, take, drop, length, Bool, true, false, ◌&&◌, cond, if◌then◌else◌, Option, Some, None, refl, sym, ap, ◌∙◌, subst, arith}
+use Rattle.std.specs.Prelude.{IsSomeAnd, nat_lt, unwrap_or}
+use Rattle.std.specs.List.{AllByRecursion}
+use Rattle.std.proofs.lemmas.Bool.{and_from, and_parts}
+use Rattle.value_core.specs.declared.change.Change.{Change}
+use Rattle.value_core.specs.declared.change.Tally.{Tally}
+use Rattle.value_core.specs.Bags.{count_of, in_row_order}
+use Rattle.value_core.specs.Changes.{Holds, IsChange}
+use Rattle.value_core.specs.Order.{Row}
+use Rattle.value_core.specs.Tallies.{added}
+use Rattle.value_core.proofs.BagLemmas.{count-in_row_order, order-in_row_order}
+use Rattle.table_versions.proofs.ContentLemmas.{content_order, follow_drop, follow_more}
+use Rattle.commit_payloads.specs.declared.definition.Definition.{Definition}
+use Rattle.commit_payloads.specs.declared.definition.StoredBody.{StoredBody}
+use Rattle.commit_payloads.specs.declared.definition.StoredBody.TheVariants.{Append, Scd1, Scd2, View}
+use Rattle.commit_payloads.specs.declared.definition.StoredExpectation.{StoredExpectation}
+use Rattle.commit_payloads.specs.declared.take.Refresh.{Refresh}
+use Rattle.commit_payloads.specs.declared.take.Take.{Take}
+use Rattle.state_model.specs.After.{begun, emptied, emptied_if, emptying, events_with, is_member, no_tally, refreshed, reset, taken, updated}
+use Rattle.state_model.specs.Dataset.{Dataset, State, content, dataset_of, is_named}
+use Rattle.state_model.specs.Follows.{FitsRefresh, FitsTable, FitsTake, counts_fit, is_append_body, is_view, is_within, keeps_events, tally_fits}
+use Rattle.state_model.specs.Saved.{base_for, compacted, folded_for}
+use Rattle.state_steps.specs.Shapes.{IsKeptWell}
+
+-- ---- counts
+
+zero_within : (xs : List StoredExpectation) → counts_fit (map no_tally xs) (map no_tally xs) ≡ true
+zero_within [] = refl
+zero_within (x ∷ xs) = zero_within xs
+
+beside_zero : (n : ℕ) → nat_lt n (2 ^ 63) ≡ true → nat_lt (0 + n) (2 ^ 63) ≡ true
+beside_zero n h = let same : n ≡ 0 + n = omega arith in subst (λ (m : ℕ). nat_lt m (2 ^ 63) ≡ true) same h
+
+tally_within : (kept more : Tally) → tally_fits kept more ≡ true → tally_fits (record { passed = 0; failed = 0 }) (record { passed = kept.passed + more.passed; failed = kept.failed + more.failed }) ≡ true
+tally_within kept more h =
+    let parts = and_parts (is_within kept.passed more.passed) (is_within kept.failed more.failed) h in
+    and_from (is_within 0 (kept.passed + more.passed)) (is_within 0 (kept.failed + more.failed)) (beside_zero (kept.passed + more.passed) parts.0) (beside_zero (kept.failed + more.failed) parts.1)
+
+added_within : (xs : List StoredExpectation) (kept more : List Tally) → counts_fit (map no_tally xs) kept ≡ true → counts_fit kept more ≡ true → counts_fit (map no_tally xs) (added kept more) ≡ true
+added_within [] [] more h j = refl
+added_within [] (k ∷ ks) more h j = cc
+added_within (x ∷ xs) [] more h j = cc
+added_within (x ∷ xs) (k ∷ ks) [] h j = cc
+added_within (x ∷ xs) (k ∷ ks) (m ∷ ms) h j =
+    let behind = and_parts (tally_fits (no_tally x) k) (counts_fit (map no_tally xs) ks) h in
+    let now = and_parts (tally_fits k m) (counts_fit ks ms) j in
+    and_from (tally_fits (no_tally x) (record { passed = k.passed + m.passed; failed = k.failed + m.failed })) (counts_fit (map no_tally xs) (added ks ms)) (tally_within k m now.0) (added_within xs ks ms behind.1 now.1)
+
+-- ---- one dataset
+
+append_of : (b : StoredBody) → keeps_events b ≡ false → is_view b ≡ false → is_append_body b ≡ true
+append_of Append e v = refl
+append_of Scd1 e v = cc
+append_of Scd2 e v = cc
+append_of View e v = cc
+
+pub begun_well : (definition : Definition) → IsKeptWell (begun definition)
+begun_well definition = record { order = tt; follow = tt; within = zero_within definition.expectations; no_events = λ e. refl }
+
+pub taken_well : (batch : Take) (d : Dataset) → IsKeptWell d → FitsTable batch d → IsChange batch.change → IsKeptWell (taken batch d)
+taken_well batch d well fits form = record {
+  order = well.order;
+  follow = follow_more d.table.rows d.table.changes batch.change well.follow form fits.are_there;
+  within = added_within d.definition.expectations d.counts batch.counts well.within fits.within;
+  no_events = λ e. let none : batch.events ≡ [] = fits.no_events (append_of d.definition.body e fits.takes) in λ i. events_with (well.no_events e i) (none i);
+}
+
+pub refreshed_well : (refresh : Refresh) (state : State) (d : Dataset) → IsKeptWell d → FitsRefresh state refresh d → IsChange refresh.change → IsKeptWell (refreshed refresh d)
+refreshed_well refresh state d well fits form = record {
+  order = well.order;
+  follow = follow_more d.table.rows d.table.changes refresh.change well.follow form fits.are_there;
+  within = fits.within;
+  no_events = well.no_events;
+}
+
+emptying_form : (rows : List Row) → IsChange (emptying rows)
+emptying_form rows = (order-in_row_order rows, tt, λ row h. refl)
+
+emptying_there : (rows : List Row) → Holds rows (in_row_order rows)
+emptying_there rows row = omega (arith, count-in_row_order row rows)
+
+emptied_well : (d : Dataset) → IsKeptWell d → IsKeptWell (emptied d)
+emptied_well d well = record {
+  order = well.order;
+  follow = follow_more d.table.rows d.table.changes (emptying (content d)) well.follow (emptying_form (content d)) (emptying_there (content d));
+  within = zero_within d.definition.expectations;
+  no_events = λ e. refl;
+}
+
+folded_well : (whole : State) (d : Dataset) → IsKeptWell d → IsKeptWell (folded_for whole d)
+folded_well whole d well = record {
+  order = content_order d.table.rows (take (base_for whole d - d.table.base) d.table.changes) well.order;
+  follow = follow_drop (base_for whole d - d.table.base) d.table.rows d.table.changes well.follow;
+  within = well.within;
+  no_events = well.no_events;
+}
+
+-- ---- all datasets
+
+pub begun_all : (list : List Definition) → AllByRecursion IsKeptWell (map begun list)
+begun_all [] = tt
+begun_all (definition ∷ list) = (begun_well definition, begun_all list)
+
+pub behind_all : (state : State) (list : List Definition) → AllByRecursion IsKeptWell state → AllByRecursion IsKeptWell (state ++ map begun list)
+behind_all [] list all = begun_all list
+behind_all (d ∷ state) list all = (all.0, behind_all state list all.1)
+
+module _ (f : Dataset → Dataset) where
+  updated_by : (b : Bool) (o : Option Dataset) (x : Dataset) (state behind : State) → ((d : Dataset) → cond b (Some x) o ≡ Some d → IsKeptWell d → IsKeptWell (f d)) → IsKeptWell x → AllByRecursion IsKeptWell state
+      → (((d : Dataset) → o ≡ Some d → IsKeptWell d → IsKeptWell (f d)) → AllByRecursion IsKeptWell behind) → AllByRecursion IsKeptWell (if b then f x ∷ state else x ∷ behind)
+  updated_by true o x state behind keeps h all go = (keeps x refl h, all)
+  updated_by false o x state behind keeps h all go = (h, go keeps)
+
+  pub updated_all : (name : List ℕ) (state : State) → ((d : Dataset) → dataset_of state name ≡ Some d → IsKeptWell d → IsKeptWell (f d)) → AllByRecursion IsKeptWell state → AllByRecursion IsKeptWell (updated name f state)
+  updated_all name [] keeps all = tt
+  updated_all name (x ∷ state) keeps all =
+      updated_by (is_named name x) (dataset_of state name) x state (updated name f state) keeps all.0 all.1 (λ g. updated_all name state g all.1)
+
+emptied_by : (d : Dataset) (b : Bool) → IsKeptWell d → IsKeptWell (if b then emptied d else d)
+emptied_by d true well = emptied_well d well
+emptied_by d false well = well
+
+pub reset_all : (names : List (List ℕ)) (state : State) → AllByRecursion IsKeptWell state → AllByRecursion IsKeptWell (reset names state)
+reset_all names [] all = tt
+reset_all names (d ∷ state) all = (emptied_by d (is_member names d) all.0, reset_all names state all.1)
+
+pub folded_all : (whole state : State) → AllByRecursion IsKeptWell state → AllByRecursion IsKeptWell (map (folded_for whole) state)
+folded_all whole [] all = tt
+folded_all whole (d ∷ state) all = (folded_well whole d all.0, folded_all whole state all.1)
+
+-- what holds of the dataset of a name
+pub some_there : (P : Dataset → Type 0) (o : Option Dataset) (d : Dataset) → IsSomeAnd o P → o ≡ Some d → P d
+some_there P None d h e = absurd h
+some_there P (Some x) d h e = subst P (ap (λ (o : Option Dataset). unwrap_or o x) e) h
