@@ -3,7 +3,7 @@ use Rattle.std.proofs.Common.{◌≡◌, ℕ, zero, suc, ◌+◌, ◌-◌, List,
 use Rattle.std.proofs.lemmas.List.Sums.{sum_by-append}
 use Rattle.value_core.specs.declared.change.Change.{Change}
 use Rattle.value_core.specs.Bags.{count_of, surplus, in_row_order, IsInOrder, net_change, changed}
-use Rattle.value_core.specs.Changes.{IsChange, Holds}
+use Rattle.value_core.specs.Changes.{IsChange, Holds, change_of}
 use Rattle.value_core.specs.Order.{Row}
 use Rattle.value_core.proofs.BagLemmas.{one, count-in_row_order, order-in_row_order, one_order}
 use Rattle.value_core.proofs.ChangeLemmas.{count-surplus}
@@ -58,3 +58,13 @@ net_later k rows changes follow =
 -- what a net change removes is there
 pub net_held : (old new : List Row) → Holds old (net_change old new).removed
 net_held old new a = omega (arith, count-in_row_order a (surplus old new), count-surplus a old new)
+
+-- ---- all rows are taken away
+
+-- a list in row order is what it is as a bag
+pub ordered_is : (rows : List Row) → IsInOrder rows → in_row_order rows ≡ rows
+ordered_is rows order = one_order (in_row_order rows) rows (order-in_row_order rows) order (λ a. count-in_row_order a rows)
+
+-- the change that takes away all rows of a list in row order
+pub clearing : (rows : List Row) → IsInOrder rows → IsChange (change_of rows [])
+clearing rows order = (order, tt, λ row some. refl)

@@ -1,7 +1,7 @@
 // The versions that are kept of a table.
-ghost use Rattle.std.specs.Prelude.{◌≡◌, ◌≢◌, ◌↔◌, ◌+◌, ◌-◌, ◌≤◌, ◌<◌, ◌^◌, ℕ, None, length, IfOk, OnOk, OnErr, MatchOption};
-ghost use Rattle.value_core.specs.Bags.{IsInOrder, net_change};
-ghost use Rattle.value_core.specs.Changes.{IsChange, Holds};
+ghost use Rattle.std.specs.Prelude.{◌≡◌, ◌≢◌, ◌↔◌, ◌+◌, ◌-◌, ◌≤◌, ◌<◌, ◌^◌, ℕ, [], None, length, IfOk, OnOk, OnErr, MatchOption};
+ghost use Rattle.value_core.specs.Bags.{IsInOrder, in_row_order, net_change};
+ghost use Rattle.value_core.specs.Changes.{IsChange, Holds, change_of};
 ghost use Rattle.net_changes.specs.Chains.{Follow};
 ghost use Rattle.table_versions.specs.declared.table.VersionEnd.TheVariants.{NoVersion, Memory as memory};
 
@@ -240,6 +240,18 @@ impl Table {
         ensures err { OnErr result (self.new ≡ self.old) }
     {
         self.changes.push(change)?;
+        Ok(())
+    }
+
+    /// One version more, that takes all rows away. `Err` for want of memory alone; then the table is as before.
+    pub fn clear(&mut self, alloc: Global) -> Result<(), AllocError>
+        requires { now_of self.old < 2 ^ 62 }
+        ensures ok { OnOk result (self.new ≡ grown self.old (change_of (in_row_order (content_now self.old)) [])) }
+        ensures err { OnErr result (self.new ≡ self.old) }
+    {
+        let removed = content_of(alloc, &self.rows, self.changes.as_slice())?;
+        let added = ListOf::new(alloc);
+        self.changes.push(Change { removed, added })?;
         Ok(())
     }
 

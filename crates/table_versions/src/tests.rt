@@ -147,7 +147,22 @@ fn fold<L: Ledger, R: Abort>(rt: &R, alloc: Global, steps: &mut Steps<L>) -> Res
     Ok(())
 }
 
-// All three, by one counter.
+// One version more, without rows.
+fn cleared<L: Ledger>(alloc: Global, steps: &mut Steps<L>) -> Result<Table, Fail> {
+    let mut table = view(alloc, steps)?;
+    if table.now() < 4611686018427387904 {
+        table.clear(alloc)?;
+    }
+    Ok(table)
+}
+
+fn clear<L: Ledger, R: Abort>(rt: &R, alloc: Global, steps: &mut Steps<L>) -> Result<(), Fail> {
+    let table = cleared(alloc, steps)?;
+    has(rt, alloc, &table, 2, &counted(alloc, 3)?, steps)?;
+    has(rt, alloc, &table, 3, &ListOf::new(alloc), steps)
+}
+
+// All of these, by one counter.
 fn all<L: Ledger, R: Abort>(rt: &R, alloc: Global, blank: Blank) -> Result<(), Fail>
     requires name { blank.name ≡ L.name }
     requires parts { blank.parts ≡ L.parts }
@@ -156,7 +171,8 @@ fn all<L: Ledger, R: Abort>(rt: &R, alloc: Global, blank: Blank) -> Result<(), F
     let mut steps = Steps::<L>::new(blank);
     read(rt, alloc, &mut steps)?;
     change(rt, alloc, &mut steps)?;
-    fold(rt, alloc, &mut steps)
+    fold(rt, alloc, &mut steps)?;
+    clear(rt, alloc, &mut steps)
 }
 
 #[test]
