@@ -35,7 +35,7 @@ use Rattle.state_steps.specs.Parts.{stored_body}
 use Rattle.state_steps.specs.Shapes.{AllHaveShape, IsKeptWell}
 use Rattle.state_steps.specs.Stands.{AllStand, BodyStands, DatasetStands, Stands, origins_of}
 use Rattle.state_steps.proofs.FitsLemmas.{fresh_new, stored_are}
-use Rattle.state_steps.proofs.OrderLemmas.{sorted_ascends}
+use Rattle.state_keeps.proofs.OrderLemmas.{sorted_ascends}
 use Rattle.state_steps.proofs.WritableLemmas.{all_forms, events_have, given_have}
 
 -- ---- the events of a change feed

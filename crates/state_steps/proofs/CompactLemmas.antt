@@ -2,7 +2,7 @@
 use Rattle.std.proofs.Common.{◌≡◌, ◌⊎◌, inl, inr, ℕ, ◌≤◌, max, min, List, [], ◌∷◌, ◌++◌, map, Bool, true, false, cond, if◌then◌else◌, Option, Some, None, refl, sym, ap, ◌∙◌, subst, arith, flat_map, option_to_list}
 use Rattle.std.specs.Prelude.{bytes_eq, IsSomeAnd}
 use Rattle.std.specs.Option.{option_map_or}
-use Rattle.std.proofs.Math.Nat.{le-max_left, max-le, min-le_left, min-le_right}
+use Rattle.std.proofs.Math.Nat.{max-le, min-le_right}
 use Rattle.std.proofs.lemmas.Slice.Eq.{bytes_eq-Decides}
 use Rattle.value_core.specs.declared.cursor.Cursor.{Cursor}
 use Rattle.value_core.specs.declared.cursor.Cursor.TheVariants.{Files, At, Never}
@@ -10,10 +10,9 @@ use Rattle.value_core.specs.Bags.{SameBag, count_of}
 use Rattle.value_core.specs.NameFold.{folded as lowered, same_name}
 use Rattle.value_core.specs.Order.{Row}
 use Rattle.landing_core.specs.declared.landing.LandingFile.{LandingFile}
-use Rattle.table_versions.specs.Laws.{KeepsLater}
 use Rattle.table_versions.specs.Versions as versions
 use Rattle.table_versions.specs.Versions.{folded, now_of}
-use Rattle.table_versions.proofs.VersionLemmas.{keeps_later, last_content}
+use Rattle.table_versions.proofs.VersionLemmas.{last_content}
 use Rattle.plan_core.specs.declared.expectation.Expectation.{Expectation}
 use Rattle.plan_core.specs.declared.flow.AppendFlow.{AppendFlow}
 use Rattle.plan_core.specs.declared.flow.Cdc.{Cdc}
@@ -30,6 +29,7 @@ use Rattle.commit_payloads.specs.declared.definition.StoredFlow.{StoredFlow}
 use Rattle.commit_payloads.specs.declared.definition.StoredOrigin.TheVariants.{Table}
 use Rattle.state_model.specs.Dataset.{Dataset, State, content, content_at, dataset_of, is_named, version_of}
 use Rattle.state_model.specs.Saved.{base_for, compacted, folded_for, least_of, read_version, readers_of, versions_read}
+use Rattle.state_keeps.proofs.FoldLemmas.{kept_base, later, least_below}
 use Rattle.state_steps.specs.Consumed.{consumed, rows_of_table, CursorStands, IsKept, IsStreamed, RemoveNone, StreamStands, StreamsStand}
 use Rattle.state_steps.specs.Parts.{stored_flow, stored_flows, stored_origin}
 use Rattle.state_steps.specs.Stands.{AllRunThrough, AllStand, AppendStands, BodyStands, DatasetStands, FeedStands, Shows, ShowsAt, Stands, ViewStands, origins_of, out_of, seen_of, takings}
@@ -51,10 +51,6 @@ in_right : (v : ℕ) (xs ys : List ℕ) → IsIn v ys → IsIn v (xs ++ ys)
 in_right v [] ys h = h
 in_right v (x ∷ xs) ys h = inr (in_right v xs ys h)
 
-least_below : (last : ℕ) (xs : List ℕ) → least_of last xs ≤ last
-least_below last [] = omega arith
-least_below last (x ∷ xs) = omega (arith, least_below (min last x) xs, min-le_left last x)
-
 least_in : (v last : ℕ) (xs : List ℕ) → IsIn v xs → least_of last xs ≤ v
 least_in v last [] h = absurd h
 least_in v last (x ∷ xs) (inl e) = omega (arith, e, least_below (min last x) xs, min-le_right last x)
@@ -63,28 +59,20 @@ least_in v last (x ∷ xs) (inr h) = least_in v (min last x) xs h
 -- ---- a dataset that is folded
 
 module _ (was : State) where
-  kept_base : (d : Dataset) → versions.IsKept d.table (base_for was d)
-  kept_base d =
-      let last : d.table.base ≤ version_of d = omega arith in
-      (le-max_left d.table.base (least_of (version_of d) (readers_of was d.definition.name)), max-le last (least_below (version_of d) (readers_of was d.definition.name)))
-
-  pub later : (d : Dataset) → KeepsLater d.table (base_for was d)
-  later d = keeps_later d.table (base_for was d) (kept_base d)
-
   -- its rows now are as before
   folded_content : (d : Dataset) → content (folded_for was d) ≡ content d
   folded_content d =
       sym (last_content (folded d.table (base_for was d)))
-      ∙ ap (λ (n : ℕ). versions.content_at (folded d.table (base_for was d)) n) (later d).now
-      ∙ (later d).content (version_of d) (kept_base d).1
+      ∙ ap (λ (n : ℕ). versions.content_at (folded d.table (base_for was d)) n) (later was d).now
+      ∙ (later was d).content (version_of d) (kept_base was d).1
       ∙ last_content d.table
 
   -- and so is a version that is read
   folded_kept : (d : Dataset) (v : ℕ) → base_for was d ≤ v → IsKept v d → IsKept v (folded_for was d)
-  folded_kept d v at kept = (at, omega (arith, (later d).now, kept.1))
+  folded_kept d v at kept = (at, omega (arith, (later was d).now, kept.1))
 
   folded_streamed : (d : Dataset) (v : ℕ) → base_for was d ≤ v → IsStreamed v d → IsStreamed v (folded_for was d)
-  folded_streamed d v at is = (folded_kept d v at is.0, subst RemoveNone (sym ((later d).since v at)) is.1)
+  folded_streamed d v at is = (folded_kept d v at is.0, subst RemoveNone (sym ((later was d).since v at)) is.1)
 
   base_below : (d : Dataset) (v : ℕ) → d.table.base ≤ v → IsIn v (readers_of was d.definition.name) → base_for was d ≤ v
   base_below d v above among = max-le above (least_in v (version_of d) (readers_of was d.definition.name) among)
@@ -121,7 +109,7 @@ module _ (was : State) where
     rows_by : (name : List ℕ) (v : ℕ) → IsRead (origin.Table name) (At v) → (o : Option Dataset) → dataset_of was name ≡ o → IsSomeAnd o (IsKept v) → rows_of_table (compacted was) name v ≡ rows_of_table was name v
     rows_by name v read None e h = absurd h
     rows_by name v read (Some d) e h =
-        ap (λ p. option_map_or (λ s. content_at s v) p []) (found_folded name was d e) ∙ (later d).content v (at_base name v d e read h.0) ∙ ap (λ p. option_map_or (λ s. content_at s v) p []) (sym e)
+        ap (λ p. option_map_or (λ s. content_at s v) p []) (found_folded name was d e) ∙ (later was d).content v (at_base name v d e read h.0) ∙ ap (λ p. option_map_or (λ s. content_at s v) p []) (sym e)
 
     kept_by : (name : List ℕ) (v : ℕ) → IsRead (origin.Table name) (At v) → (o : Option Dataset) → dataset_of was name ≡ o → IsSomeAnd o (IsKept v) → IsSomeAnd (dataset_of (compacted was) name) (IsKept v)
     kept_by name v read None e h = absurd h

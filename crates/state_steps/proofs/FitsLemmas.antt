@@ -1,6 +1,6 @@
 -- A commit that is allowed, with rows and events of the right shape, follows the state of a store that stands.
 use Rattle.std.proofs.Common.{◌≡◌, ℕ, suc, ◌<◌, ◌≤◌, List, [], ◌∷◌, ◌++◌, map, length, drop, Bool, true, false, not, ◌&&◌, ◌||◌, cond, if◌then◌else◌, Option, Some, None, refl, sym, ap, ◌∙◌, subst, arith, append_assoc}
-use Rattle.std.specs.Prelude.{IsTrue, IsSomeAnd, AllPairs, find, is_none, slice_index_or}
+use Rattle.std.specs.Prelude.{⊤, IsTrue, IsSomeAnd, AllPairs, find, is_none, slice_index_or}
 use Rattle.std.specs.List.{list_all, list_any}
 use Rattle.std.proofs.lemmas.List.{length-map, take-append-drop}
 use Rattle.std.proofs.lemmas.Slice.Eq.{bytes_eq-Decides}
@@ -43,15 +43,27 @@ use Rattle.commit_payloads.specs.declared.take.Refresh.{Refresh}
 use Rattle.commit_payloads.specs.declared.take.Take.{Take}
 use Rattle.state_model.specs.After.{no_tally}
 use Rattle.state_model.specs.Dataset.{Dataset, State, content, cursor_in, cursor_of, dataset_of, definitions_of, flow_of, is_defined, is_flow, version_of}
-use Rattle.state_model.specs.Follows.{Fits, FitsDefine, FitsRefresh, FitsTake, FlowMoves, IsReached, Keeps, MovesOn, VersionMoves, all_fit, are_distinct, are_new, counts_fit, event_fits, is_append, is_append_body, is_view, tally_fits}
+use Rattle.state_model.specs.Follows.{IsStore, Fits, FitsDefine, FitsRefresh, FitsTake, FlowMoves, IsReached, Keeps, MovesOn, VersionMoves, all_fit, are_distinct, are_new, counts_fit, event_fits, is_append, is_append_body, is_view, tally_fits}
 use Rattle.state_steps.specs.Consumed.{CursorStands, IsKept, consumed}
 use Rattle.state_steps.proofs.FeedTakes.{kept_sorts}
 use Rattle.state_steps.specs.Parts.{IsOf, stored_body, stored_expectation, stored_flow, stored_flows, stored_origin}
-use Rattle.state_steps.specs.Shapes.{HasShape, written_on}
+use Rattle.state_steps.specs.Shapes.{written_on}
+use Rattle.state_model.specs.Saved.{read_back}
 use Rattle.state_steps.specs.Stands.{AllStand, BodyStands, DatasetStands, FeedStands, Stands, ViewStands}
 use Rattle.state_steps.specs.Steps.{AppendTakes, AreOf, BodyRefreshes, BodyTakes, Commits, Defines, FeedTakes, IsFound, Refreshes, Takes, ViewRefreshes, flow_named}
 use Rattle.state_steps.proofs.EmptyLemmas.{zero_counts}
 use Rattle.state_steps.proofs.Lookups.{paired, some_same}
+
+-- ---- what a payload's rows and events are beside the rules of steps
+
+-- rows fit the columns, and events the keys, the sequence and the columns; a base is of the shape of a store
+abbrev pub HasShape : State → Payload → Type 0
+HasShape state (payload.Define is_fresh list) = ⊤
+HasShape state (payload.Take batch) = IsSomeAnd (dataset_of state batch.table) (λ dataset.
+    (all_fit dataset.definition.columns batch.change.added ≡ true) × (list_all (event_fits dataset.definition) batch.events ≡ true))
+HasShape state (payload.Refresh refresh) = IsSomeAnd (dataset_of state refresh.view) (λ dataset. all_fit dataset.definition.columns refresh.change.added ≡ true)
+HasShape state (payload.Reset names) = ⊤
+HasShape state (payload.Base base) = IsStore (read_back base)
 
 -- ---- new events are of new moments
 

@@ -15,14 +15,16 @@ use Rattle.state_model.specs.Dataset.{Dataset, State, dataset_of, definitions_of
 use Rattle.state_model.specs.Follows.{Fits, FitsRefresh, FitsTake, IsStore, all_fit}
 use Rattle.state_model.specs.Saved.{compacted, folded_for, read_back, saved}
 use Rattle.state_model.proofs.StateLemmas.{saved-read_back}
-use Rattle.state_steps.specs.Shapes.{AllHaveShape, AllWithin, HasShape, IsKeptWell, written_on}
+use Rattle.state_steps.specs.Shapes.{AllHaveShape, AllWithin, IsKeptWell, written_on}
 use Rattle.state_steps.specs.Stands.{Stands}
 use Rattle.state_steps.specs.Steps.{Commits, Defines, Refreshes, Standing, Step, Commit, Grow, Steps, Done, More, Takes}
 use Rattle.state_steps.proofs.BaseLemmas.{is_base}
 use Rattle.state_steps.proofs.CommitShapes.{BatchFits, commit_keeps, folded_definitions, renewal_shape, still_typed, take_shape}
-use Rattle.state_steps.proofs.CompactLemmas.{compact_stands, later}
+use Rattle.state_keeps.specs.Stored.{IsStored}
+use Rattle.state_keeps.proofs.FoldLemmas.{later}
+use Rattle.state_steps.proofs.CompactLemmas.{compact_stands}
 use Rattle.state_steps.proofs.CompositionLemmas.{step_stands}
-use Rattle.state_steps.proofs.FitsLemmas.{commit_fits, defined_are, refresh_fits, some_fits, take_fits}
+use Rattle.state_steps.proofs.FitsLemmas.{HasShape, commit_fits, defined_are, refresh_fits, some_fits, take_fits}
 use Rattle.state_steps.proofs.RowShapes.{compacted_shaped}
 use Rattle.state_steps.proofs.StoreLemmas.{is_store}
 use Rattle.state_steps.proofs.WellLemmas.{begun_all, behind_all, folded_all, refreshed_well, reset_all, some_there, taken_well, updated_all}
@@ -44,6 +46,9 @@ module _ (parts : List Part) (ever : List LandingFile) (state : State) (stands :
 
   folded_is : (base : Saved) → base ≡ saved (compacted state) → read_back base ≡ compacted state
   folded_is base e = ap read_back e ∙ saved-read_back (compacted state)
+
+  pub stored : AllWithin state → IsStored state
+  stored limits = record { store = is_store parts ever state stands shape limits; form = is_base parts ever state stands shape }
 
   folded_store : AllWithin state → IsStore (compacted state)
   folded_store limits = is_store parts ever (compacted state) (compact_stands parts ever state stands) folded_shape (within_folded state state limits)

@@ -15,7 +15,6 @@ pub mod FollowLemmas
 pub mod FreshLemmas
 pub mod KeepLemmas
 pub mod Lookups
-pub mod OrderLemmas
 pub mod ResetLemmas
 pub mod RowShapes
 pub mod RunLemmas

@@ -21,39 +21,10 @@ use Rattle.state_model.specs.After.{begun, emptied, emptied_if, emptying, events
 use Rattle.state_model.specs.Dataset.{Dataset, State, content, dataset_of, is_named}
 use Rattle.state_model.specs.Follows.{FitsRefresh, FitsTable, FitsTake, counts_fit, is_append_body, is_view, is_within, keeps_events, tally_fits}
 use Rattle.state_model.specs.Saved.{base_for, compacted, folded_for}
+use Rattle.state_keeps.proofs.DatasetLemmas.{added_within, append_of, emptying_form, emptying_there, zero_within}
 use Rattle.state_steps.specs.Shapes.{IsKeptWell}
 
--- ---- counts
-
-zero_within : (xs : List StoredExpectation) → counts_fit (map no_tally xs) (map no_tally xs) ≡ true
-zero_within [] = refl
-zero_within (x ∷ xs) = zero_within xs
-
-beside_zero : (n : ℕ) → nat_lt n (2 ^ 63) ≡ true → nat_lt (0 + n) (2 ^ 63) ≡ true
-beside_zero n h = let same : n ≡ 0 + n = omega arith in subst (λ (m : ℕ). nat_lt m (2 ^ 63) ≡ true) same h
-
-tally_within : (kept more : Tally) → tally_fits kept more ≡ true → tally_fits (record { passed = 0; failed = 0 }) (record { passed = kept.passed + more.passed; failed = kept.failed + more.failed }) ≡ true
-tally_within kept more h =
-    let parts = and_parts (is_within kept.passed more.passed) (is_within kept.failed more.failed) h in
-    and_from (is_within 0 (kept.passed + more.passed)) (is_within 0 (kept.failed + more.failed)) (beside_zero (kept.passed + more.passed) parts.0) (beside_zero (kept.failed + more.failed) parts.1)
-
-added_within : (xs : List StoredExpectation) (kept more : List Tally) → counts_fit (map no_tally xs) kept ≡ true → counts_fit kept more ≡ true → counts_fit (map no_tally xs) (added kept more) ≡ true
-added_within [] [] more h j = refl
-added_within [] (k ∷ ks) more h j = cc
-added_within (x ∷ xs) [] more h j = cc
-added_within (x ∷ xs) (k ∷ ks) [] h j = cc
-added_within (x ∷ xs) (k ∷ ks) (m ∷ ms) h j =
-    let behind = and_parts (tally_fits (no_tally x) k) (counts_fit (map no_tally xs) ks) h in
-    let now = and_parts (tally_fits k m) (counts_fit ks ms) j in
-    and_from (tally_fits (no_tally x) (record { passed = k.passed + m.passed; failed = k.failed + m.failed })) (counts_fit (map no_tally xs) (added ks ms)) (tally_within k m now.0) (added_within xs ks ms behind.1 now.1)
-
 -- ---- one dataset
-
-append_of : (b : StoredBody) → keeps_events b ≡ false → is_view b ≡ false → is_append_body b ≡ true
-append_of Append e v = refl
-append_of Scd1 e v = cc
-append_of Scd2 e v = cc
-append_of View e v = cc
 
 pub begun_well : (definition : Definition) → IsKeptWell (begun definition)
 begun_well definition = record { order = tt; follow = tt; within = zero_within definition.expectations; no_events = λ e. refl }
@@ -73,12 +44,6 @@ refreshed_well refresh state d well fits form = record {
   within = fits.within;
   no_events = well.no_events;
 }
-
-emptying_form : (rows : List Row) → IsChange (emptying rows)
-emptying_form rows = (order-in_row_order rows, tt, λ row h. refl)
-
-emptying_there : (rows : List Row) → Holds rows (in_row_order rows)
-emptying_there rows row = omega (arith, count-in_row_order row rows)
 
 emptied_well : (d : Dataset) → IsKeptWell d → IsKeptWell (emptied d)
 emptied_well d well = record {

@@ -1,5 +1,5 @@
 -- Of what shape the rows of a store are, and what its plan says of them.
-use Rattle.std.specs.Prelude.{◌≡◌, ⊤, ◌≤◌, ◌^◌, true, false, List, [], ◌∷◌, Bool, ◌&&◌, map, IsSomeAnd}
+use Rattle.std.specs.Prelude.{◌≡◌, ◌≤◌, ◌^◌, true, false, List, [], ◌∷◌, Bool, ◌&&◌, map}
 use Rattle.std.specs.List.{AllByRecursion, list_all}
 use Rattle.value_core.specs.Bags.{IsInOrder}
 use Rattle.net_changes.specs.Chains.{Follow}
@@ -7,9 +7,8 @@ use Rattle.commit_payloads.specs.declared.payload.Payload.{Payload}
 use Rattle.commit_payloads.specs.declared.payload.Payload.TheVariants as payload
 use Rattle.plan_core.specs.declared.plan.Dataset.{Dataset as Part}
 use Rattle.state_model.specs.After.{no_tally}
-use Rattle.state_model.specs.Dataset.{Dataset, State, dataset_of, definitions_of, version_of}
-use Rattle.state_model.specs.Follows.{IsStore, all_fit, counts_fit, event_fits, keeps_events}
-use Rattle.state_model.specs.Saved.{read_back}
+use Rattle.state_model.specs.Dataset.{Dataset, State, definitions_of, version_of}
+use Rattle.state_model.specs.Follows.{all_fit, counts_fit, keeps_events}
 use Rattle.state_steps.specs.Parts.{AreTyped}
 
 -- the rows at the base, and those that later changes add, fit the columns
@@ -41,12 +40,3 @@ written_on state (payload.Take batch) = state
 written_on state (payload.Refresh refresh) = state
 written_on state (payload.Reset names) = state
 written_on state (payload.Base base) = []
-
--- rows fit the columns, and events the keys, the sequence and the columns; a base is of the shape of a store
-abbrev pub HasShape : State → Payload → Type 0
-HasShape state (payload.Define is_fresh list) = ⊤
-HasShape state (payload.Take batch) = IsSomeAnd (dataset_of state batch.table) (λ dataset.
-    (all_fit dataset.definition.columns batch.change.added ≡ true) × (list_all (event_fits dataset.definition) batch.events ≡ true))
-HasShape state (payload.Refresh refresh) = IsSomeAnd (dataset_of state refresh.view) (λ dataset. all_fit dataset.definition.columns refresh.change.added ≡ true)
-HasShape state (payload.Reset names) = ⊤
-HasShape state (payload.Base base) = IsStore (read_back base)

@@ -23,6 +23,7 @@ ghost use Rattle.state_model.specs.After.{after_payload};
 ghost use Rattle.state_model.specs.Dataset.{Dataset, State};
 ghost use Rattle.state_model.specs.Follows.{Fits};
 ghost use Rattle.state_model.specs.Saved.{compacted, saved};
+ghost use Rattle.state_keeps.specs.Stored.{IsStored};
 ghost use Rattle.state_steps.specs.Consumed.{row_of_line};
 ghost use Rattle.state_steps.specs.Fresh.{AllAtEnd, IsAtEnd, IsFresh, Landed, ReadsBelow, Table, table_of};
 ghost use Rattle.state_steps.specs.Parts.{IsOf, definition_of};
@@ -86,6 +87,16 @@ pub fn steps_keep_the_shape()
         → Stands was.parts was.ever was.state
         → AllHaveShape was.parts was.state
         → AllHaveShape now.parts now.state }
+{}
+
+/// A law: a store that stands and has its shape, of which no dataset is past the limit of versions, is what a store may
+/// be, so that each payload that follows it leads to a store, and its log can begin anew with it.
+pub fn a_standing_store_is_a_store()
+    ensures { (parts : List Part) (ever : List LandingFile) (state : State)
+        → Stands parts ever state
+        → AllHaveShape parts state
+        → AllWithin state
+        → IsStored state }
 {}
 
 /// A law: files that grow, appear or go leave a store standing.

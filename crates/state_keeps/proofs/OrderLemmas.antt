@@ -1,5 +1,6 @@
 -- Events that are sorted stand by key and then by sequence, where no two are of one moment.
 use Rattle.std.proofs.Common.{◌≡◌, Bool, true, false, not, ◌&&◌, ◌||◌, if◌then◌else◌, List, [], ◌∷◌, ◌++◌, refl, sym, ap, ◌∙◌}
+use Rattle.std.specs.Prelude.{⊤}
 use Rattle.std.specs.List.{list_any}
 use Rattle.std.specs.declared.cmp.Ordering.{Ordering}
 use Rattle.std.specs.declared.cmp.Ordering.TheVariants.{Less, Equal, Greater}
@@ -127,8 +128,88 @@ apart_new x kept (y ∷ ys) one new =
     none_from (same_moment x y) (list_any (same_moment x) ys) (apart_by x y kept (same_moment y x) refl one parts.0)
     (apart_new x (kept ++ y ∷ []) ys (λ test h. any_more test kept (y ∷ []) (one test h)) parts.1)
 
+-- ---- ascending events are of different moments
+
+before_trans_by : (k1 k2 k3 s1 s2 s3 : Ordering) → (k1 ≡ Less → k2 ≡ Less → k3 ≡ Less) → (k1 ≡ Equal → k3 ≡ k2) → (k2 ≡ Equal → k3 ≡ k1) → (s1 ≡ Less → s2 ≡ Less → s3 ≡ Less)
+    → is_lt (ordering_then k1 s1) ≡ true → is_lt (ordering_then k2 s2) ≡ true → is_lt (ordering_then k3 s3) ≡ true
+before_trans_by Less Less k3 s1 s2 s3 less left right behind h j = rw (less refl refl) refl
+before_trans_by Less Equal k3 s1 s2 s3 less left right behind h j = rw (right refl) refl
+before_trans_by Less Greater k3 s1 s2 s3 less left right behind h j = cc
+before_trans_by Greater k2 k3 s1 s2 s3 less left right behind h j = cc
+before_trans_by Equal Less k3 s1 s2 s3 less left right behind h j = rw (left refl) refl
+before_trans_by Equal Greater k3 s1 s2 s3 less left right behind h j = cc
+before_trans_by Equal Equal k3 s1 s2 s3 less left right behind h j = rw (left refl, behind (is_less s1 h) (is_less s2 j)) refl
+  where
+    is_less : (o : Ordering) → is_lt o ≡ true → o ≡ Less
+    is_less Less e = refl
+    is_less Equal e = cc
+    is_less Greater e = cc
+
+-- a tie on the right leaves the order as it is
+tie_right : (a b c : Row) → row_order b c ≡ Equal → row_order a c ≡ row_order a b
+tie_right a b c e =
+    row_order_total.antisymm a c ∙ ap ordering_reverse (sym (row_order_total.congr b c a e)) ∙ sym (row_order_total.antisymm a b)
+
+before_trans : (a b c : Event) → comes_before a b ≡ true → comes_before b c ≡ true → comes_before a c ≡ true
+before_trans a b c h j =
+    before_trans_by (row_order a.key b.key) (row_order b.key c.key) (row_order a.key c.key) (row_order a.sequence b.sequence) (row_order b.sequence c.sequence) (row_order a.sequence c.sequence)
+    (row_order_total.trans a.key b.key c.key) (row_order_total.congr a.key b.key c.key) (tie_right a.key b.key c.key) (row_order_total.trans a.sequence b.sequence c.sequence) h j
+
+other_moment : (keys sequences : Ordering) → is_lt (ordering_then keys sequences) ≡ true → (is_eq keys && is_eq sequences) ≡ false
+other_moment Less sequences h = refl
+other_moment Greater sequences h = refl
+other_moment Equal Less h = refl
+other_moment Equal Equal h = cc
+other_moment Equal Greater h = refl
+
+-- an event that comes before the first of ascending events is of none of their moments
+apart_from : (a : Event) (xs : List Event) → is_before_first a xs ≡ true → are_ascending xs ≡ true → list_any (same_moment a) xs ≡ false
+apart_from a [] first all = refl
+apart_from a (x ∷ xs) first all =
+    let parts = and_parts (is_before_first x xs) (are_ascending xs) all in
+    none_from (same_moment a x) (list_any (same_moment a) xs) (other_moment (row_order a.key x.key) (row_order a.sequence x.sequence) first) (apart_from a xs (further xs parts.0) parts.1)
+  where
+    further : (ys : List Event) → is_before_first x ys ≡ true → is_before_first a ys ≡ true
+    further [] h = refl
+    further (y ∷ ys) h = before_trans a x y first h
+
+-- events of which none is of an earlier moment, from the last one back
+abbrev pub AreApart : List Event → Type 0
+AreApart [] = ⊤
+AreApart (x ∷ xs) = (list_any (same_moment x) xs ≡ false) × AreApart xs
+
+ascending_apart : (xs : List Event) → are_ascending xs ≡ true → AreApart xs
+ascending_apart [] all = tt
+ascending_apart (x ∷ xs) all = let parts = and_parts (is_before_first x xs) (are_ascending xs) all in (apart_from x xs parts.0 parts.1, ascending_apart xs parts.1)
+
+new_apart : (kept xs : List Event) → are_new kept xs ≡ true → AreApart xs
+new_apart kept [] new = tt
+new_apart kept (x ∷ xs) new =
+    let parts = and_parts (not (list_any (same_moment x) kept)) (are_new (kept ++ x ∷ []) xs) new in (apart_new x (kept ++ x ∷ []) xs (last_one x kept) parts.1, new_apart (kept ++ x ∷ []) xs parts.1)
+
+any_none : (test : Event → Bool) (xs ys : List Event) → list_any test xs ≡ false → list_any test ys ≡ false → list_any test (xs ++ ys) ≡ false
+any_none test [] ys h k = k
+any_none test (x ∷ xs) ys h k = let parts = none_by (test x) (list_any test xs) h in none_from (test x) (list_any test (xs ++ ys)) parts.0 (any_none test xs ys parts.1 k)
+
+both_apart : (whole xs ys : List Event) → ((x : Event) → IsOne x xs → IsOne x whole) → AreApart xs → are_new whole ys ≡ true → AreApart ys → AreApart (xs ++ ys)
+both_apart whole [] ys among apart new behind = behind
+both_apart whole (x ∷ xs) ys among apart new behind = (
+  any_none (same_moment x) xs ys apart.0 (apart_new x whole ys (among x (λ test h. ap (λ (b : Bool). b || list_any test xs) h)) new),
+  both_apart whole xs ys (λ y is. among y (λ test h. more (test x) (list_any test xs) (is test h))) apart.1 new behind,
+)
+  where
+    more : (p q : Bool) → q ≡ true → (p || q) ≡ true
+    more true q f = refl
+    more false q f = f
+
+apart_ascends : (xs : List Event) → AreApart xs → are_ascending (sorted_by event_order xs) ≡ true
+apart_ascends [] apart = refl
+apart_ascends (x ∷ xs) apart = placed_ascends x (sorted_by event_order xs) (any_sorted (same_moment x) xs apart.0) (apart_ascends xs apart.1)
+
+-- kept events with new ones beside them, once they are sorted, ascend
+pub events_ascend : (kept new : List Event) → are_ascending kept ≡ true → are_new kept new ≡ true → are_ascending (sorted_by event_order (kept ++ new)) ≡ true
+events_ascend kept new all fresh = apart_ascends (kept ++ new) (both_apart kept kept new (λ x is. is) (ascending_apart kept all) fresh (new_apart kept new fresh))
+
+-- events of which none is of an earlier moment ascend once they are sorted
 pub sorted_ascends : (kept xs : List Event) → are_new kept xs ≡ true → are_ascending (sorted_by event_order xs) ≡ true
-sorted_ascends kept [] new = refl
-sorted_ascends kept (x ∷ xs) new =
-    let parts = and_parts (not (list_any (same_moment x) kept)) (are_new (kept ++ x ∷ []) xs) new in
-    placed_ascends x (sorted_by event_order xs) (any_sorted (same_moment x) xs (apart_new x (kept ++ x ∷ []) xs (last_one x kept) parts.1)) (sorted_ascends (kept ++ x ∷ []) xs parts.1)
+sorted_ascends kept xs new = apart_ascends xs (new_apart kept xs new)

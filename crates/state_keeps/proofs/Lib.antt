@@ -1,0 +1,6 @@
+pub mod DatasetLemmas
+pub mod FoldLemmas
+pub mod ListTools
+pub mod NameLemmas
+pub mod OrderLemmas
+pub mod StoreLemmas
