@@ -1,6 +1,6 @@
 -- A dataset of a store stays one that a store may have.
-use Rattle.std.proofs.Common.{◌≡◌, ℕ, zero, suc, ◌+◌, ◌-◌, ◌<◌, ◌≤◌, ◌^◌, List, [], ◌∷◌, ◌++◌, map, take, drop, length, Bool, true, false, ◌&&◌, cond, if◌then◌else◌, Option, Some, None, refl, sym, ap, ◌∙◌, subst, arith, length-append}
-use Rattle.std.specs.Prelude.{IsSomeAnd, ◌==◌, find, nat_lt}
+use Rattle.std.proofs.Common.{◌≡◌, ℕ, zero, suc, ◌+◌, ◌-◌, ◌<◌, ◌≤◌, ◌^◌, List, [], ◌∷◌, ◌++◌, map, take, drop, length, Bool, true, false, ◌&&◌, cond, if◌then◌else◌, Option, Some, None, refl, sym, ap, subst, arith, length-append}
+use Rattle.std.specs.Prelude.{◌==◌, find, nat_lt}
 use Rattle.std.specs.List.{AllByRecursion, list_all}
 use Rattle.std.proofs.lemmas.Bool.{and_from, and_parts}
 use Rattle.std.proofs.lemmas.List.{length-map}
@@ -11,7 +11,7 @@ use Rattle.value_core.specs.declared.cursor.Cursor.TheVariants.{Files, At, Never
 use Rattle.value_core.specs.declared.event.Event.{Event}
 use Rattle.value_core.specs.Bags.{in_row_order}
 use Rattle.value_core.specs.Changes.{Holds, IsChange}
-use Rattle.value_core.specs.EventOrder.{event_order, sorted_by}
+use Rattle.value_core.specs.EventOrder.{event_order}
 use Rattle.value_core.specs.Order.{Row}
 use Rattle.value_core.specs.Tallies.{added}
 use Rattle.value_core.proofs.BagLemmas.{count-in_row_order, order-in_row_order}
@@ -28,8 +28,8 @@ use Rattle.commit_payloads.specs.declared.take.Refresh.{Refresh}
 use Rattle.commit_payloads.specs.declared.take.Take.{Take}
 use Rattle.commit_payloads.specs.Forms.{IsBatch, IsKept, IsProgress, IsRenewal, all_have_their_parts, fits_its_body, fits_the_body, is_own_flow}
 use Rattle.state_model.specs.After.{begun, begun_cursor, emptied, emptying, events_with, first_cursor, moved, no_tally, refreshed, taken}
-use Rattle.state_model.specs.Dataset.{Dataset, State, changes_after, content, content_at, cursor_in, cursor_of, flow_of, is_flow, version_of}
-use Rattle.state_model.specs.Follows.{CursorsFit, FitsRefresh, FitsStored, FitsTable, FitsTake, FlowMoves, MovesOn, all_fit, counts_fit, event_fits, is_append_body, is_view, is_within, keeps_events, tally_fits}
+use Rattle.state_model.specs.Dataset.{Dataset, State, content, cursor_in, cursor_of, is_flow, version_of}
+use Rattle.state_model.specs.Follows.{CursorsFit, FitsRefresh, FitsStored, FitsTake, FlowMoves, MovesOn, counts_fit, event_fits, is_append_body, is_view, is_within, keeps_events, tally_fits}
 use Rattle.state_model.specs.Saved.{base_for, folded_for, kept_of}
 use Rattle.state_keeps.proofs.ListTools.{adds_fit, after_fits, all_append, all_dropped, all_sorted, all_taken, both_of, head_of, tail_of}
 use Rattle.state_keeps.proofs.OrderLemmas.{events_ascend}

@@ -1,5 +1,5 @@
 -- A dataset whose older versions are folded away.
-use Rattle.std.proofs.Common.{◌≡◌, ℕ, ◌≤◌, max, min, List, [], ◌∷◌, arith}
+use Rattle.std.proofs.Common.{◌≡◌, ℕ, ◌≤◌, min, List, [], ◌∷◌, arith}
 use Rattle.std.proofs.Math.Nat.{le-max_left, max-le, min-le_left}
 use Rattle.table_versions.specs.Laws.{KeepsLater}
 use Rattle.table_versions.specs.Versions.{IsKept}

@@ -1,6 +1,6 @@
 -- Datasets by name, before and after a payload.
-use Rattle.std.proofs.Common.{◌≡◌, ◌⊎◌, inl, inr, ℕ, ◌+◌, ◌≤◌, List, [], ◌∷◌, ◌++◌, map, length, Bool, true, false, ◌&&◌, cond, if◌then◌else◌, Option, Some, None, refl, sym, ap, ◌∙◌, subst, arith, length-append}
-use Rattle.std.specs.Prelude.{⊤, IsSomeAnd, bytes_eq, find, is_none, unwrap_or}
+use Rattle.std.proofs.Common.{◌≡◌, ℕ, ◌+◌, ◌≤◌, List, [], ◌∷◌, ◌++◌, map, Bool, true, false, cond, if◌then◌else◌, Option, Some, None, refl, sym, ap, ◌∙◌, subst, arith, length-append}
+use Rattle.std.specs.Prelude.{⊤, IsSomeAnd, find, is_none, unwrap_or}
 use Rattle.std.specs.Option.{option_or}
 use Rattle.std.proofs.lemmas.Bool.{and_parts}
 use Rattle.std.proofs.lemmas.List.Folds.{find-append}
@@ -14,10 +14,9 @@ use Rattle.commit_payloads.specs.declared.definition.Definition.{Definition}
 use Rattle.commit_payloads.specs.declared.definition.StoredFlow.{StoredFlow}
 use Rattle.commit_payloads.specs.declared.definition.StoredOrigin.{StoredOrigin}
 use Rattle.commit_payloads.specs.declared.definition.StoredOrigin.TheVariants.{Folder, Table}
-use Rattle.state_model.specs.After.{begun_cursor, emptied, emptied_if, is_member, reset, updated}
+use Rattle.state_model.specs.After.{begun_cursor, updated}
 use Rattle.state_model.specs.Dataset.{Dataset, State, dataset_of, definitions_of, is_defined, is_named, version_of}
 use Rattle.state_model.specs.Follows.{CursorsFit, IsReached, MovesOn, are_distinct}
-use Rattle.state_model.specs.Saved.{compacted, folded_for}
 
 pub some_is : {A : Type 0} (a b : A) → Some a ≡ Some b → a ≡ b
 some_is a b e = ap (λ o. unwrap_or o a) e

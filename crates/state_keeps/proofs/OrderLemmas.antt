@@ -7,7 +7,7 @@ use Rattle.std.specs.declared.cmp.Ordering.TheVariants.{Less, Equal, Greater}
 use Rattle.std.specs.Ordering.{is_eq, is_gt, is_lt, nat_cmp, ordering_reverse, ordering_then}
 use Rattle.std.proofs.lemmas.Bool.{and_from, and_parts}
 use Rattle.value_core.specs.declared.event.Event.{Event}
-use Rattle.value_core.specs.EventOrder.{event_order, history_order, kind_rank, placed_by, same_moment, sorted_by}
+use Rattle.value_core.specs.EventOrder.{event_order, kind_rank, placed_by, same_moment, sorted_by}
 use Rattle.value_core.specs.Order.{Row, row_order}
 use Rattle.value_core.specs.OrderLaws.{row_order_total}
 use Rattle.commit_payloads.specs.Forms.{are_ascending, comes_before, is_before_first}

@@ -1,7 +1,7 @@
 -- What follows a store leads to a store.
-use Rattle.std.proofs.Common.{◌≡◌, ℕ, ◌<◌, ◌≤◌, ◌^◌, List, [], ◌∷◌, ◌++◌, map, drop, length, Bool, true, false, ◌&&◌, ◌||◌, cond, if◌then◌else◌, Option, Some, None, refl, sym, ap, ◌∙◌, subst, arith}
+use Rattle.std.proofs.Common.{◌≡◌, ℕ, ◌<◌, ◌≤◌, ◌^◌, List, [], ◌∷◌, ◌++◌, map, drop, length, Bool, true, false, ◌||◌, cond, if◌then◌else◌, Option, Some, None, refl, sym, ap, ◌∙◌, subst, arith}
 use Rattle.std.specs.Prelude.{IfSome, IsSomeAnd}
-use Rattle.std.specs.List.{AllByRecursion, list_any}
+use Rattle.std.specs.List.{AllByRecursion}
 use Rattle.std.proofs.lemmas.Bool.{and_parts}
 use Rattle.std.proofs.lemmas.List.{length-map}
 use Rattle.commit_payloads.specs.declared.definition.Definition.{Definition}
@@ -12,10 +12,10 @@ use Rattle.commit_payloads.specs.declared.state.State.{State as Saved}
 use Rattle.commit_payloads.specs.declared.take.Refresh.{Refresh}
 use Rattle.commit_payloads.specs.declared.take.Take.{Take}
 use Rattle.commit_payloads.specs.Forms as forms
-use Rattle.commit_payloads.specs.Forms.{AreDefinitions, IsBase, IsBatch, IsKept, IsRenewal, fits_its_body}
+use Rattle.commit_payloads.specs.Forms.{AreDefinitions, IsBase, IsKept, fits_its_body}
 use Rattle.state_model.specs.After.{after_payload, begun, emptied, emptied_if, emptying, is_member, refreshed, reset, taken, updated}
 use Rattle.state_model.specs.Dataset.{Dataset, State, content, dataset_of, definition_of, definitions_of, is_named, version_of}
-use Rattle.state_model.specs.Follows.{AllFitStored, AllHaveVersions, Fits, FitsRefresh, FitsStored, FitsTake, Follows, HasVersions, IsStore, are_distinct}
+use Rattle.state_model.specs.Follows.{AllFitStored, AllHaveVersions, Fits, FitsRefresh, FitsTake, Follows, HasVersions, IsStore, are_distinct}
 use Rattle.state_model.specs.Saved.{compacted, folded_for, kept_of, read_back, saved, side_by_side}
 use Rattle.state_model.proofs.StateLemmas.{definitions-defined, definitions-reset, definitions-updated, saved-read_back}
 use Rattle.state_keeps.specs.Stored.{IsStored}

@@ -1,13 +1,13 @@
 -- A store that stands has the form in which a base is written.
-use Rattle.std.proofs.Common.{◌≡◌, ℕ, List, [], ◌∷◌, map, length, Bool, true, false, if◌then◌else◌, None, refl, sym, ap, ◌∙◌, subst}
-use Rattle.std.specs.List.{AllByRecursion, list_all}
+use Rattle.std.proofs.Common.{◌≡◌, ℕ, List, [], ◌∷◌, map, true, false, None, refl, sym, ap, ◌∙◌, subst}
+use Rattle.std.specs.List.{AllByRecursion}
 use Rattle.std.proofs.lemmas.List.{length-map}
 use Rattle.value_core.specs.declared.change.Change.{Change}
 use Rattle.value_core.specs.declared.cursor.Cursor.{Cursor}
 use Rattle.value_core.specs.declared.cursor.Cursor.TheVariants.{Files, At, Never}
 use Rattle.value_core.specs.declared.event.Event.{Event}
 use Rattle.value_core.specs.Changes.{IsChange}
-use Rattle.value_core.specs.EventOrder.{event_order, sorted_by}
+use Rattle.value_core.specs.EventOrder.{event_order}
 use Rattle.value_core.specs.Order.{Row}
 use Rattle.segment_rows.specs.EventParts.{has_its_parts}
 use Rattle.net_changes.specs.Chains.{Follow}
@@ -28,7 +28,7 @@ use Rattle.flow_kinds.proofs.EventFits.{fresh_fit}
 use Rattle.flow_kinds.proofs.FitTools.{all_sorted}
 use Rattle.commit_payloads.specs.Forms.{IsBase, IsKept, IsProgress, all_have_their_parts, are_ascending}
 use Rattle.state_model.specs.Dataset.{Dataset, State, definition_of, definitions_of}
-use Rattle.state_model.specs.Follows.{are_new, keeps_events}
+use Rattle.state_model.specs.Follows.{keeps_events}
 use Rattle.state_model.specs.Saved.{kept_of, saved}
 use Rattle.state_steps.specs.Consumed.{CursorStands, StreamStands, StreamsStand, consumed}
 use Rattle.state_steps.specs.Parts.{stored_body}

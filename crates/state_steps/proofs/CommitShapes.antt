@@ -1,6 +1,6 @@
 -- An allowed commit has rows and events of the shape of its dataset, and the store keeps its shape.
-use Rattle.std.proofs.Common.{◌≡◌, ℕ, ◌+◌, ◌-◌, ◌*◌, List, [], ◌∷◌, ◌++◌, map, length, take, drop, Bool, true, false, ◌&&◌, if◌then◌else◌, Option, Some, None, Ok, refl, sym, ap, ◌∙◌, subst, arith, append_assoc, length-append}
-use Rattle.std.specs.Prelude.{IsTrue, IsSomeAnd, option_and_then, slice_get, unwrap_or}
+use Rattle.std.proofs.Common.{◌≡◌, ℕ, ◌+◌, ◌-◌, ◌*◌, List, [], ◌∷◌, ◌++◌, map, length, take, drop, Bool, true, false, if◌then◌else◌, Option, Some, refl, sym, ap, ◌∙◌, subst, arith, append_assoc, length-append}
+use Rattle.std.specs.Prelude.{IsTrue, option_and_then, slice_get, unwrap_or}
 use Rattle.std.specs.List.{AllByRecursion, list_all}
 use Rattle.std.proofs.lemmas.List.{length-map, take_at}
 use Rattle.value_core.specs.declared.change.Change.{Change}
@@ -9,7 +9,7 @@ use Rattle.value_core.specs.declared.event.EventKind.{EventKind}
 use Rattle.value_core.specs.declared.event.EventKind.TheVariants.{Upsert, Delete, Truncate}
 use Rattle.value_core.specs.declared.schema.Column.{Column}
 use Rattle.value_core.specs.declared.value.Kind.{Kind}
-use Rattle.value_core.specs.Bags.{in_row_order, net_change, surplus}
+use Rattle.value_core.specs.Bags.{in_row_order, surplus}
 use Rattle.value_core.specs.EventOrder.{event_order}
 use Rattle.value_core.specs.Fits.{row_fits}
 use Rattle.value_core.specs.Order.{Row}
@@ -20,7 +20,7 @@ use Rattle.plan_core.specs.declared.plan.Body.{Body}
 use Rattle.plan_core.specs.declared.plan.Body.TheVariants as body
 use Rattle.plan_core.specs.declared.plan.Dataset.{Dataset as Part}
 use Rattle.plan_core.specs.declared.query.Query.{Query}
-use Rattle.plan_core.specs.Sound.{IsSoundBody, IsSoundFeed, IsSoundTable, IsSoundTarget, IsSoundView, flow_columns, kinds_at, kinds_of, target_kinds}
+use Rattle.plan_core.specs.Sound.{IsSoundBody, IsSoundTable, IsSoundTarget, IsSoundView, kinds_at, kinds_of, target_kinds}
 use Rattle.flow_model.specs.Append.{append_out}
 use Rattle.flow_model.specs.Events.{fresh}
 use Rattle.flow_model.specs.Feed.{given}
@@ -33,7 +33,6 @@ use Rattle.flow_kinds.proofs.FitTools.{all_append, all_in_order, all_sorted, bot
 use Rattle.flow_kinds.proofs.TargetFits.{target_fits}
 use Rattle.flow_kinds.proofs.ViewFits.{view_fits}
 use Rattle.commit_payloads.specs.declared.definition.Definition.{Definition}
-use Rattle.commit_payloads.specs.declared.definition.StoredBody.{StoredBody}
 use Rattle.commit_payloads.specs.declared.definition.StoredBody.TheVariants.{Scd1, Scd2}
 use Rattle.commit_payloads.specs.declared.payload.Payload.{Payload}
 use Rattle.commit_payloads.specs.declared.payload.Payload.TheVariants as payload
@@ -48,7 +47,7 @@ use Rattle.state_steps.specs.Consumed.{consumed}
 use Rattle.state_steps.specs.Parts.{AllKeepText, AreTyped, IsOf, IsTyped, sequence_kinds, stored_body, stored_keys, streams_of}
 use Rattle.state_steps.specs.Shapes.{AllHaveShape, IsKeptWell, is_shaped}
 use Rattle.state_steps.specs.Stands.{BodyStands, FeedStands, Stands}
-use Rattle.state_steps.specs.Steps.{AppendTakes, BodyRefreshes, BodyTakes, Commits, FeedTakes, IsFound, Refreshes, Takes, ViewRefreshes}
+use Rattle.state_steps.specs.Steps.{AppendTakes, BodyRefreshes, BodyTakes, Commits, FeedTakes, Refreshes, Takes, ViewRefreshes}
 use Rattle.state_steps.proofs.FitsLemmas.{found_stands}
 use Rattle.state_steps.proofs.UniqueLemmas.{found_sound}
 use Rattle.state_steps.proofs.FlowShapes.{between_fit, consumed_fit, found_flow, found_typed, now_fits, query_source}

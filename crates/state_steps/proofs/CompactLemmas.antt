@@ -1,6 +1,6 @@
 -- Folding away the versions at which nothing stands keeps a store standing.
-use Rattle.std.proofs.Common.{◌≡◌, ◌⊎◌, inl, inr, ℕ, ◌≤◌, max, min, List, [], ◌∷◌, ◌++◌, map, Bool, true, false, cond, if◌then◌else◌, Option, Some, None, refl, sym, ap, ◌∙◌, subst, arith, flat_map, option_to_list}
-use Rattle.std.specs.Prelude.{bytes_eq, IsSomeAnd}
+use Rattle.std.proofs.Common.{◌≡◌, ◌⊎◌, inl, inr, ℕ, ◌≤◌, min, List, [], ◌∷◌, ◌++◌, map, Bool, true, false, cond, if◌then◌else◌, Option, Some, None, refl, sym, ap, ◌∙◌, subst, arith, flat_map, option_to_list}
+use Rattle.std.specs.Prelude.{IsSomeAnd}
 use Rattle.std.specs.Option.{option_map_or}
 use Rattle.std.proofs.Math.Nat.{max-le, min-le_right}
 use Rattle.std.proofs.lemmas.Slice.Eq.{bytes_eq-Decides}
@@ -11,7 +11,7 @@ use Rattle.value_core.specs.NameFold.{folded as lowered, same_name}
 use Rattle.value_core.specs.Order.{Row}
 use Rattle.landing_core.specs.declared.landing.LandingFile.{LandingFile}
 use Rattle.table_versions.specs.Versions as versions
-use Rattle.table_versions.specs.Versions.{folded, now_of}
+use Rattle.table_versions.specs.Versions.{folded}
 use Rattle.table_versions.proofs.VersionLemmas.{last_content}
 use Rattle.plan_core.specs.declared.expectation.Expectation.{Expectation}
 use Rattle.plan_core.specs.declared.flow.AppendFlow.{AppendFlow}
@@ -23,7 +23,7 @@ use Rattle.plan_core.specs.declared.plan.Body.TheVariants as body
 use Rattle.plan_core.specs.declared.plan.Dataset.{Dataset as Part}
 use Rattle.plan_core.specs.declared.query.Query.{Query}
 use Rattle.flow_model.specs.Admission.{counts}
-use Rattle.flow_model.specs.Feed.{events, feed_stop}
+use Rattle.flow_model.specs.Feed.{events}
 use Rattle.flow_model.specs.Target.{target_rows}
 use Rattle.commit_payloads.specs.declared.definition.StoredFlow.{StoredFlow}
 use Rattle.commit_payloads.specs.declared.definition.StoredOrigin.TheVariants.{Table}

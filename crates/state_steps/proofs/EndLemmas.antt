@@ -1,9 +1,9 @@
 -- A commit leaves at its end what a dataset of its level or of a lesser one reads.
-use Rattle.std.proofs.Common.{◌≡◌, ◌⊎◌, inl, inr, ℕ, ◌<◌, ◌≤◌, List, [], ◌∷◌, Bool, true, false, cond, Option, Some, None, refl, sym, ap, ◌∙◌, subst, arith}
+use Rattle.std.proofs.Common.{◌≡◌, inl, inr, ℕ, ◌<◌, ◌≤◌, List, [], ◌∷◌, Bool, true, false, cond, Option, Some, None, refl, sym, ap, ◌∙◌, subst, arith}
 use Rattle.std.specs.Prelude.{bytes_eq, find, IsSomeAnd}
 use Rattle.std.proofs.lemmas.Slice.Eq.{bytes_eq-Decides}
 use Rattle.value_core.specs.declared.cursor.Cursor.{Cursor}
-use Rattle.value_core.specs.declared.cursor.Cursor.TheVariants.{Files, At, Never}
+use Rattle.value_core.specs.declared.cursor.Cursor.TheVariants.{Files, At}
 use Rattle.value_core.specs.NameFold.{folded, same_name}
 use Rattle.landing_core.specs.declared.landing.LandingFile.{LandingFile}
 use Rattle.plan_core.specs.declared.flow.Origin.{Origin}
@@ -15,7 +15,7 @@ use Rattle.state_model.specs.Dataset.{Dataset, State, dataset_of, is_named, vers
 use Rattle.state_steps.specs.Fresh.{IsAtEnd, Landed, ReadsBelow}
 use Rattle.state_steps.specs.Stands.{Stands}
 use Rattle.state_steps.specs.Steps.{IsFound}
-use Rattle.state_steps.proofs.Lookups.{found_after, paired, some_same}
+use Rattle.state_steps.proofs.Lookups.{found_after, some_same}
 
 -- what is found under a name has it
 named_by : (name : List ℕ) (d : Dataset) (ds : State) (old : Dataset) (here : Bool) → is_named name d ≡ here → (dataset_of ds name ≡ Some old → is_named name old ≡ true) → cond here (Some d) (dataset_of ds name) ≡ Some old → is_named name old ≡ true

@@ -1,7 +1,6 @@
 -- The rows that a flow reads fit the columns of its source.
-use Rattle.std.proofs.Common.{◌≡◌, ℕ, ◌≤◌, List, [], ◌∷◌, ◌++◌, map, Bool, true, false, ◌&&◌, cond, if◌then◌else◌, Option, Some, None, refl, sym, ap, ◌∙◌, subst, arith, All}
+use Rattle.std.proofs.Common.{◌≡◌, ℕ, List, [], ◌∷◌, map, Bool, true, false, ◌&&◌, cond, if◌then◌else◌, Option, Some, None, refl, sym, ap, ◌∙◌, subst, arith, All}
 use Rattle.std.specs.Prelude.{nat_lt, option_and_then, IsSomeAnd}
-use Rattle.std.specs.List.{list_all}
 use Rattle.std.specs.Option.{option_map_or}
 use Rattle.std.proofs.lemmas.List.Elements.{All-head, All-tail}
 use Rattle.value_core.specs.declared.cursor.Cursor.{Cursor}
@@ -9,7 +8,7 @@ use Rattle.value_core.specs.declared.cursor.Cursor.TheVariants.{Files, At, Never
 use Rattle.value_core.specs.declared.cursor.FilePlace.{FilePlace}
 use Rattle.value_core.specs.declared.schema.Column.{Column}
 use Rattle.value_core.specs.declared.shape.Shape.{Shape}
-use Rattle.value_core.specs.Bags.{count_of, in_row_order}
+use Rattle.value_core.specs.Bags.{in_row_order}
 use Rattle.value_core.specs.Fits.{row_fits}
 use Rattle.value_core.specs.NameFold.{same_name}
 use Rattle.value_core.specs.Order.{Row}
@@ -22,13 +21,13 @@ use Rattle.plan_core.specs.declared.flow.AppendFlow.{AppendFlow}
 use Rattle.plan_core.specs.declared.flow.Origin.{Origin}
 use Rattle.plan_core.specs.declared.flow.Origin.TheVariants as origin
 use Rattle.plan_core.specs.declared.plan.Dataset.{Dataset as Part}
-use Rattle.plan_core.specs.Sound.{IsSoundBody, IsSoundFlow, dataset_named, flow_columns, is_append, kinds_of, query_columns}
+use Rattle.plan_core.specs.Sound.{IsSoundFlow, dataset_named, flow_columns, is_append, kinds_of, query_columns}
 use Rattle.flow_kinds.specs.EventKinds.{all_fit}
 use Rattle.flow_kinds.proofs.FitTools.{all_in_order, both_of, some_is}
-use Rattle.state_model.specs.Dataset.{Dataset, State, changes_after, content, content_at, dataset_of, definitions_of, is_named, version_of}
+use Rattle.state_model.specs.Dataset.{Dataset, State, changes_after, content, content_at, dataset_of, definitions_of, version_of}
 use Rattle.state_steps.specs.Consumed.{consumed, head_given, row_of_line, rows_of_files}
 use Rattle.state_steps.specs.Parts.{AllKeepText, AreTyped, IsTyped, KeepsText}
-use Rattle.state_steps.specs.Shapes.{AllHaveShape, is_shaped}
+use Rattle.state_steps.specs.Shapes.{AllHaveShape}
 use Rattle.state_steps.specs.Stands.{AllStand, Stands}
 use Rattle.state_steps.specs.Steps.{AreBetween, flow_named}
 use Rattle.state_steps.proofs.Lookups.{paired}

@@ -1,5 +1,5 @@
 -- An allowed commit follows the state of a store that stands, and the store keeps its shape.
-use Rattle.std.proofs.Common.{◌≡◌, ℕ, ◌≤◌, ◌^◌, List, [], ◌∷◌, map, drop, length, Bool, true, false, refl, sym, ap, ◌∙◌, subst, arith}
+use Rattle.std.proofs.Common.{◌≡◌, List, [], ◌∷◌, map, drop, length, Bool, true, false, sym, ap, ◌∙◌, subst, arith}
 use Rattle.std.specs.List.{AllByRecursion}
 use Rattle.landing_core.specs.declared.landing.LandingFile.{LandingFile}
 use Rattle.plan_core.specs.declared.plan.Dataset.{Dataset as Part}
@@ -11,7 +11,7 @@ use Rattle.commit_payloads.specs.declared.take.Refresh.{Refresh}
 use Rattle.commit_payloads.specs.declared.take.Take.{Take}
 use Rattle.commit_payloads.specs.Forms.{AreDefinitions, IsBase}
 use Rattle.state_model.specs.After.{after_payload, refreshed, taken}
-use Rattle.state_model.specs.Dataset.{Dataset, State, dataset_of, definitions_of, version_of}
+use Rattle.state_model.specs.Dataset.{State, dataset_of}
 use Rattle.state_model.specs.Follows.{Fits, FitsRefresh, FitsTake, IsStore, all_fit}
 use Rattle.state_model.specs.Saved.{compacted, folded_for, read_back, saved}
 use Rattle.state_model.proofs.StateLemmas.{saved-read_back}

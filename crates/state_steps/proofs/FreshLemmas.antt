@@ -28,7 +28,7 @@ use Rattle.flow_model.proofs.FeedLemmas.{events_move, feed_stop_moves}
 use Rattle.state_model.specs.Dataset.{Dataset, State, content, content_at, dataset_of, version_of}
 use Rattle.state_steps.specs.Consumed.{consumed, rows_of_files, rows_of_table}
 use Rattle.state_steps.specs.Fresh.{AllAtEnd, AllFresh, AreAtEnd, IsAtEnd, IsFresh, IsFreshAppend, IsFreshBody, IsFreshFeed, IsFreshView, Landed, Table, all_of, full_takings, reads_of, rows_named, table_named, table_of}
-use Rattle.state_steps.specs.Stands.{AllRunThrough, AllStand, AppendStands, BodyStands, DatasetStands, FeedStands, Shows, ShowsAt, Stands, Taking, ViewStands, origins_of, out_of, takings}
+use Rattle.state_steps.specs.Stands.{AllRunThrough, AllStand, AppendStands, BodyStands, FeedStands, ShowsAt, Stands, Taking, origins_of, out_of, takings}
 use Rattle.state_steps.specs.Stands as stands
 use Rattle.state_steps.proofs.BatchLemmas.{at_now}
 use Rattle.state_steps.proofs.Lookups.{some_same}

@@ -1,6 +1,6 @@
 -- Flows that run level by level bring a store to its end.
-use Rattle.std.proofs.Common.{◌≡◌, ◌⊎◌, inl, inr, ℕ, suc, ◌<◌, ◌≤◌, List, [], ◌∷◌, length, Bool, true, false, cond, Option, Some, None, refl, sym, ap, ◌∙◌, subst, arith}
-use Rattle.std.specs.Prelude.{⊤, AllPairs, IsSomeAnd, bytes_eq, slice_index_or}
+use Rattle.std.proofs.Common.{◌≡◌, inl, inr, ℕ, suc, ◌<◌, ◌≤◌, List, [], ◌∷◌, length, Bool, true, false, cond, Option, Some, None, refl, sym, ap, ◌∙◌, subst, arith}
+use Rattle.std.specs.Prelude.{⊤, AllPairs, IsSomeAnd, slice_index_or}
 use Rattle.std.proofs.lemmas.Slice.Eq.{bytes_eq-Decides}
 use Rattle.value_core.specs.declared.cursor.Cursor.{Cursor}
 use Rattle.value_core.specs.NameFold.{folded, same_name}
@@ -13,7 +13,7 @@ use Rattle.commit_payloads.specs.declared.payload.Payload.{Payload}
 use Rattle.commit_payloads.specs.declared.payload.Payload.TheVariants as payload
 use Rattle.state_model.specs.After.{after_payload, refreshed, taken, updated}
 use Rattle.state_model.specs.Dataset.{Dataset, State, dataset_of, is_named}
-use Rattle.state_steps.specs.Fresh.{AllAtEnd, AreAtEnd, IsAtEnd, Landed, reads_of}
+use Rattle.state_steps.specs.Fresh.{AllAtEnd, AreAtEnd, Landed, reads_of}
 use Rattle.state_steps.specs.Runs.{AreAllOf, AreInLevels, ComesBefore, Ends, Goes, Idle, IsAtItsEnd, IsInto, IsOneOf, RunsAll, RunsOne, Then}
 use Rattle.state_steps.specs.Stands.{AllStand, Stands}
 use Rattle.state_steps.specs.Steps.{Commits, IsFound}

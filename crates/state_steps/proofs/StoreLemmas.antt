@@ -1,5 +1,5 @@
 -- A store that stands and has its shape is what a store may be.
-use Rattle.std.proofs.Common.{◌≡◌, ℕ, ◌≤◌, ◌^◌, List, [], ◌∷◌, map, Bool, true, false, if◌then◌else◌, Option, Some, None, refl, sym, ap, ◌∙◌, subst, All}
+use Rattle.std.proofs.Common.{◌≡◌, ℕ, ◌≤◌, ◌^◌, List, [], ◌∷◌, map, true, false, Option, Some, None, refl, sym, ap, ◌∙◌, subst, All}
 use Rattle.std.specs.Prelude.{IsSomeAnd}
 use Rattle.std.specs.List.{AllByRecursion, list_all}
 use Rattle.std.proofs.lemmas.Bool.{and_parts}
@@ -20,7 +20,7 @@ use Rattle.flow_kinds.proofs.FitTools.{head_of, tail_of}
 use Rattle.commit_payloads.specs.declared.definition.StoredOrigin.TheVariants.{Table}
 use Rattle.state_model.specs.After.{begun_cursor, no_tally}
 use Rattle.state_model.specs.Dataset.{Dataset, State, dataset_of, definitions_of, version_of}
-use Rattle.state_model.specs.Follows.{AllFitStored, CursorsFit, FitsStored, IsReached, IsStore, MovesOn, all_fit, event_fits, keeps_events}
+use Rattle.state_model.specs.Follows.{AllFitStored, CursorsFit, FitsStored, IsStore, MovesOn, all_fit, event_fits, keeps_events}
 use Rattle.state_steps.specs.Consumed.{CursorStands, IsKept, IsStreamed, StreamStands, StreamsStand}
 use Rattle.state_steps.specs.Parts.{AllKeepText, AreTyped, IsTyped, sequence_kinds, stored_body, stored_flow, stored_flows, stored_keys, stored_origin, streams_of}
 use Rattle.state_steps.specs.Shapes.{AllHaveShape, AllWithin, IsKeptWell, is_shaped}

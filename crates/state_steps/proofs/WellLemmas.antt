@@ -1,26 +1,16 @@
 -- What follows keeps each dataset as it is kept.
-use Rattle.std.proofs.Common.{◌≡◌, ℕ, ◌+◌, ◌-◌, ◌<◌, ◌^◌, List, [], ◌∷◌, ◌++◌, map, take, drop, length, Bool, true, false, ◌&&◌, cond, if◌then◌else◌, Option, Some, None, refl, sym, ap, ◌∙◌, subst, arith}
-use Rattle.std.specs.Prelude.{IsSomeAnd, nat_lt, unwrap_or}
+use Rattle.std.proofs.Common.{◌≡◌, ℕ, ◌+◌, ◌-◌, List, [], ◌∷◌, ◌++◌, map, take, Bool, true, false, cond, if◌then◌else◌, Option, Some, None, refl, ap, subst}
+use Rattle.std.specs.Prelude.{IsSomeAnd, unwrap_or}
 use Rattle.std.specs.List.{AllByRecursion}
-use Rattle.std.proofs.lemmas.Bool.{and_from, and_parts}
-use Rattle.value_core.specs.declared.change.Change.{Change}
-use Rattle.value_core.specs.declared.change.Tally.{Tally}
-use Rattle.value_core.specs.Bags.{count_of, in_row_order}
-use Rattle.value_core.specs.Changes.{Holds, IsChange}
-use Rattle.value_core.specs.Order.{Row}
-use Rattle.value_core.specs.Tallies.{added}
-use Rattle.value_core.proofs.BagLemmas.{count-in_row_order, order-in_row_order}
+use Rattle.value_core.specs.Changes.{IsChange}
 use Rattle.table_versions.proofs.ContentLemmas.{content_order, follow_drop, follow_more}
 use Rattle.commit_payloads.specs.declared.definition.Definition.{Definition}
-use Rattle.commit_payloads.specs.declared.definition.StoredBody.{StoredBody}
-use Rattle.commit_payloads.specs.declared.definition.StoredBody.TheVariants.{Append, Scd1, Scd2, View}
-use Rattle.commit_payloads.specs.declared.definition.StoredExpectation.{StoredExpectation}
 use Rattle.commit_payloads.specs.declared.take.Refresh.{Refresh}
 use Rattle.commit_payloads.specs.declared.take.Take.{Take}
-use Rattle.state_model.specs.After.{begun, emptied, emptied_if, emptying, events_with, is_member, no_tally, refreshed, reset, taken, updated}
+use Rattle.state_model.specs.After.{begun, emptied, emptying, events_with, is_member, refreshed, reset, taken, updated}
 use Rattle.state_model.specs.Dataset.{Dataset, State, content, dataset_of, is_named}
-use Rattle.state_model.specs.Follows.{FitsRefresh, FitsTable, FitsTake, counts_fit, is_append_body, is_view, is_within, keeps_events, tally_fits}
-use Rattle.state_model.specs.Saved.{base_for, compacted, folded_for}
+use Rattle.state_model.specs.Follows.{FitsRefresh, FitsTable}
+use Rattle.state_model.specs.Saved.{base_for, folded_for}
 use Rattle.state_keeps.proofs.DatasetLemmas.{added_within, append_of, emptying_form, emptying_there, zero_within}
 use Rattle.state_steps.specs.Shapes.{IsKeptWell}
 

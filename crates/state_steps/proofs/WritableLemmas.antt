@@ -1,16 +1,15 @@
 -- The changes, cursors and events of an allowed commit have the form in which they are written.
-use Rattle.std.proofs.Common.{◌≡◌, ℕ, ◌<◌, List, [], ◌∷◌, length, Bool, true, false, ◌&&◌, if◌then◌else◌, Option, Some, None, Result, Ok, Err, refl, sym, ap, ◌∙◌, subst, arith}
+use Rattle.std.proofs.Common.{◌≡◌, ℕ, List, [], ◌∷◌, length, Bool, true, false, ◌&&◌, if◌then◌else◌, Some, Result, Ok, Err, refl, sym, ap, ◌∙◌, subst, arith}
 use Rattle.std.specs.Prelude.{bytes_eq, ◌==◌}
 use Rattle.std.specs.List.{list_all, list_any}
-use Rattle.std.proofs.lemmas.Bool.{and_from, and_parts}
+use Rattle.std.proofs.lemmas.Bool.{and_from}
 use Rattle.std.proofs.lemmas.Slice.Eq.{bytes_eq-Decides}
-use Rattle.value_core.specs.declared.change.Change.{Change}
 use Rattle.value_core.specs.declared.cursor.Cursor.{Cursor}
-use Rattle.value_core.specs.declared.cursor.Cursor.TheVariants.{Files, At, Never}
+use Rattle.value_core.specs.declared.cursor.Cursor.TheVariants.{Files, At}
 use Rattle.value_core.specs.declared.event.Event.{Event}
 use Rattle.value_core.specs.declared.event.EventKind.{EventKind}
 use Rattle.value_core.specs.declared.event.EventKind.TheVariants.{Upsert, Delete, Truncate}
-use Rattle.value_core.specs.Bags.{count_of, in_row_order}
+use Rattle.value_core.specs.Bags.{in_row_order}
 use Rattle.value_core.specs.Changes.{IsChange, change_of}
 use Rattle.value_core.specs.Order.{Row, is_null}
 use Rattle.value_core.proofs.BagLemmas.{order-in_row_order}
@@ -36,8 +35,6 @@ use Rattle.flow_kinds.proofs.EventFits.{fresh_fit}
 use Rattle.flow_kinds.proofs.FitTools.{all_picked, all_true, head_of, some_is, tail_of}
 use Rattle.commit_payloads.specs.declared.definition.Definition.{Definition}
 use Rattle.commit_payloads.specs.declared.definition.StoredBody.TheVariants.{Scd1, Scd2}
-use Rattle.commit_payloads.specs.declared.payload.Payload.{Payload}
-use Rattle.commit_payloads.specs.declared.payload.Payload.TheVariants as payload
 use Rattle.commit_payloads.specs.declared.take.Refresh.{Refresh}
 use Rattle.commit_payloads.specs.declared.take.Take.{Take}
 use Rattle.commit_payloads.specs.Forms.{IsBatch, IsProgress, IsRenewal, all_fit, all_have_their_parts, fits_its_body, fits_the_body}

@@ -1,5 +1,5 @@
 -- Of what shape the rows of a store are, and what its plan says of them.
-use Rattle.std.specs.Prelude.{◌≡◌, ◌≤◌, ◌^◌, true, false, List, [], ◌∷◌, Bool, ◌&&◌, map}
+use Rattle.std.specs.Prelude.{◌≡◌, ◌≤◌, ◌^◌, true, false, List, [], Bool, ◌&&◌, map}
 use Rattle.std.specs.List.{AllByRecursion, list_all}
 use Rattle.value_core.specs.Bags.{IsInOrder}
 use Rattle.net_changes.specs.Chains.{Follow}

@@ -1,7 +1,6 @@
 -- The steps that a store and its landing files may take.
-use Rattle.std.specs.Prelude.{◌≡◌, ⊤, List, [], ◌∷◌, ◌++◌, ℕ, Bool, true, false, map, flat_map, drop, take, find, length, Option, Some, None, IsSomeAnd, Ok}
+use Rattle.std.specs.Prelude.{◌≡◌, ⊤, List, [], ◌∷◌, ◌++◌, ℕ, Bool, true, false, drop, take, find, length, Option, Some, None, IsSomeAnd, Ok}
 use Rattle.std.specs.List.{list_any}
-use Rattle.value_core.specs.declared.change.Change.{Change}
 use Rattle.value_core.specs.declared.cursor.Cursor.{Cursor}
 use Rattle.value_core.specs.declared.cursor.Cursor.TheVariants.{Files, At, Never}
 use Rattle.value_core.specs.Bags.{SameBag, in_row_order, net_change}

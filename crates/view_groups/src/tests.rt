@@ -1,8 +1,9 @@
-use crate::{Gives, Groups, Share, group_rows, is_grouped, part_of, project, stop_by};
+use crate::{Gives, Groups, Share, Turned, group_rows, is_grouped, part_of, project, stop_by};
 use plan_core::{Exprs, Item, Items, Place, Query, Stop, StopOr};
 use row_expr::{Arithmetic, Expr, RowFault};
 use sqlite_items::Boxed;
 use std::alloc::{AllocError, Global};
+use std::process::Abort;
 use std::test::Fail;
 use value_core::{Kind, ListOf, Name, Row, Rows, Value};
 
@@ -22,41 +23,59 @@ fn row(alloc: Global, numbers: &[i64]) -> Result<Row, AllocError> {
     Ok(row)
 }
 
-/// `1 / c`
-fn inverse(alloc: Global) -> Result<Expr, AllocError> {
-    let one = Boxed::new(alloc, Expr::Literal(Value::Big(1)))?;
-    let c = Boxed::new(alloc, Expr::Column(0, Kind::Big))?;
-    Ok(Expr::Arithmetic(Arithmetic::Div, one, c))
+/// `1 / c`, divided by the given expression.
+fn inverse_of(one: Boxed<Expr>, c: Boxed<Expr>) -> Item {
+    Item::Plain(Expr::Arithmetic(Arithmetic::Div, one, c))
 }
 
-/// A query with these groups and items.
-fn query(alloc: Global, groups: Exprs, items: Items) -> Result<Query, AllocError> {
-    let origin = Name::new(alloc, "orders")?;
-    Ok(Query {
+/// A query of these groups and items.
+fn query(origin: Name, groups: Exprs, items: Items) -> Query {
+    Query {
         origin,
         filter: None,
         groups,
         items,
-    })
+    }
 }
 
-/// `SELECT c, count(*), sum(a), max(a) FROM orders GROUP BY c`
-fn spend(alloc: Global) -> Result<Query, AllocError> {
+/// The groups by `c`.
+fn by_customer(alloc: Global) -> Result<Exprs, AllocError> {
     let mut groups: Exprs = ListOf::new(alloc);
     groups.push(Expr::Column(0, Kind::Big))?;
+    Ok(groups)
+}
+
+/// `c, count(*), sum(a), max(a)`
+fn totals(alloc: Global) -> Result<Items, AllocError> {
     let mut items: Items = ListOf::new(alloc);
     items.push(Item::Key(0))?;
     items.push(Item::CountAll)?;
     items.push(Item::Sum(Expr::Column(1, Kind::Big)))?;
     items.push(Item::Max(Expr::Column(1, Kind::Big)))?;
-    query(alloc, groups, items)
+    Ok(items)
+}
+
+/// `SELECT c, count(*), sum(a), max(a) FROM orders GROUP BY c`
+fn spend(alloc: Global) -> Result<Boxed<Query>, AllocError> {
+    let groups = by_customer(alloc)?;
+    let items = totals(alloc)?;
+    Boxed::new(alloc, query(Name::new(alloc, "orders")?, groups, items))
+}
+
+/// `1 / c`
+fn inverse(alloc: Global) -> Result<Items, AllocError> {
+    let one = Boxed::new(alloc, Expr::Literal(Value::Big(1)))?;
+    let c = Boxed::new(alloc, Expr::Column(0, Kind::Big))?;
+    let mut items: Items = ListOf::new(alloc);
+    items.push(inverse_of(one, c))?;
+    Ok(items)
 }
 
 /// `SELECT 1 / c FROM orders`
-fn inverses(alloc: Global) -> Result<Query, AllocError> {
-    let mut items: Items = ListOf::new(alloc);
-    items.push(Item::Plain(inverse(alloc)?))?;
-    query(alloc, ListOf::new(alloc), items)
+fn inverses(alloc: Global) -> Result<Boxed<Query>, AllocError> {
+    let items = inverse(alloc)?;
+    let origin = Name::new(alloc, "orders")?;
+    Boxed::new(alloc, query(origin, ListOf::new(alloc), items))
 }
 
 /// Orders: the customer and the amount of each.
@@ -76,16 +95,21 @@ fn gives_rows(found: &Result<Rows, StopOr>, wanted: &Rows) -> bool {
     }
 }
 
+/// What the query gives: by customer, how many orders, their sum and the greatest.
+fn spent(alloc: Global) -> Result<Rows, AllocError> {
+    let mut rows: Rows = ListOf::new(alloc);
+    rows.push(row(alloc, &[1, 2, 310, 250])?)?;
+    rows.push(row(alloc, &[2, 1, 40, 40])?)?;
+    Ok(rows)
+}
+
 #[test]
 fn groups_have_their_totals(rt: HostRuntime) -> Result<(), Fail> {
     let m = rt.alloc();
     let query = spend(m)?;
-    assert!(rt; is_grouped(&query));
-    let rows = group_rows(m, &query, orders(m)?.as_slice());
-    let mut wanted: Rows = ListOf::new(m);
-    wanted.push(row(m, &[1, 2, 310, 250])?)?;
-    wanted.push(row(m, &[2, 1, 40, 40])?)?;
-    assert!(rt; gives_rows(&rows, &wanted));
+    assert!(rt; is_grouped(query.get()));
+    let rows = group_rows(m, query.get(), orders(m)?.as_slice());
+    assert!(rt; gives_rows(&rows, &spent(m)?));
     Ok(())
 }
 
@@ -124,17 +148,37 @@ fn gives_nothing(found: &Gives) -> bool {
     matches!(found, Gives::Nothing)
 }
 
+/// What the first customer's group gives before and after an order goes.
+fn without(
+    alloc: Global,
+    groups: &mut Groups,
+    query: &Query,
+    amount: i64,
+) -> Result<Turned, AllocError> {
+    let key = row(alloc, &[1])?;
+    let gone = share(alloc, amount)?;
+    groups.touch(alloc, query, &key, gone.as_slice(), &[])
+}
+
+fn goes(
+    rt: &impl Abort,
+    alloc: Global,
+    groups: &mut Groups,
+    query: &Query,
+) -> Result<(), AllocError> {
+    let turned = without(alloc, groups, query, 250)?;
+    assert!(rt; gives(&turned.before, &row(alloc, &[1, 2, 310, 250])?));
+    assert!(rt; gives(&turned.after, &row(alloc, &[1, 1, 60, 60])?));
+    Ok(())
+}
+
 #[test]
 fn a_greatest_value_goes_with_its_row(rt: HostRuntime) -> Result<(), Fail> {
     let m = rt.alloc();
     let query = spend(m)?;
-    let mut groups = order_groups(m, &query)?;
-    let key = row(m, &[1])?;
-    let first = groups.touch(m, &query, &key, share(m, 250)?.as_slice(), &[])?;
-    assert!(rt; gives(&first.before, &row(m, &[1, 2, 310, 250])?));
-    assert!(rt; gives(&first.after, &row(m, &[1, 1, 60, 60])?));
-    let last = groups.touch(m, &query, &key, share(m, 60)?.as_slice(), &[])?;
-    assert!(rt; gives_nothing(&last.after));
+    let mut groups = order_groups(m, query.get())?;
+    goes(&rt, m, &mut groups, query.get())?;
+    assert!(rt; gives_nothing(&without(m, &mut groups, query.get(), 60)?.after));
     Ok(())
 }
 
@@ -172,17 +216,23 @@ fn is_stopped_at(found: &Option<Stop>, row: &Row) -> bool {
     }
 }
 
+/// A row of 0 stops the query, a row of 1 doesn't.
+fn projects(rt: &impl Abort, alloc: Global, query: &Query, zero: &Row) -> Result<(), AllocError> {
+    let mut out: Rows = ListOf::new(alloc);
+    assert!(rt; is_stopped_at(&project(&mut out, alloc, query, zero)?, zero));
+    assert!(rt; project(&mut out, alloc, query, &row(alloc, &[1])?)?.is_none());
+    assert!(rt; out.len() == 1);
+    Ok(())
+}
+
 #[test]
 fn a_fault_stands_at_its_row(rt: HostRuntime) -> Result<(), Fail> {
     let m = rt.alloc();
     let query = inverses(m)?;
-    assert!(rt; !is_grouped(&query));
     let zero = row(m, &[0])?;
-    let mut out: Rows = ListOf::new(m);
-    assert!(rt; is_stopped_at(&project(&mut out, m, &query, &zero)?, &zero));
-    assert!(rt; project(&mut out, m, &query, &row(m, &[1])?)?.is_none());
-    assert!(rt; out.len() == 1);
-    assert!(rt; part_stops_at(&part_of(m, &query, &zero), &zero));
+    assert!(rt; !is_grouped(query.get()));
+    projects(&rt, m, query.get(), &zero)?;
+    assert!(rt; part_stops_at(&part_of(m, query.get(), &zero), &zero));
     assert!(rt; stops_at(&stop_by(m, &zero, RowFault::ZeroDivisor), &zero));
     Ok(())
 }

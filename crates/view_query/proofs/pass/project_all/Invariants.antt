@@ -1,0 +1,10 @@
+use Rattle.std.specs.Prelude.{◌≡◌, ◌++◌, map, take, drop}
+use Rattle.flow_model.specs.Views.{shares_of}
+use Rattle.view_groups.specs.AllGroups.{first_fault}
+use Rattle.view_query.proofs.pass.project_all.Given as goal
+
+abbrev pub invariant-loop-row : goal.invariant-loop-row
+invariant-loop-row l = record {
+  stop : first_fault l.query (drop l.row-index l.rows) ≡ first_fault l.query l.rows;
+  rows : l.out ≡ l.initial.out ++ map (λ s. s.values) (shares_of l.query (take l.row-index l.rows));
+}
