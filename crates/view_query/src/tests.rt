@@ -36,31 +36,38 @@ fn rows(alloc: Global, numbers: &[i64]) -> Result<Rows, AllocError> {
     Ok(rows)
 }
 
-/// `SELECT items FROM t`
-fn query(alloc: Global, items: Items) -> Result<Query, AllocError> {
-    let origin = Name::new(alloc, "t")?;
-    Ok(Query {
+/// `SELECT items FROM origin`
+fn query(alloc: Global, origin: Name, items: Items) -> Query {
+    Query {
         origin,
         filter: None,
         groups: ListOf::new(alloc),
         items,
-    })
+    }
 }
 
-/// `SELECT count(*), sum(a), min(a) FROM t`
-fn totals(alloc: Global) -> Result<Query, AllocError> {
+/// `count(*), sum(a), min(a)`
+fn total_items(alloc: Global) -> Result<Items, AllocError> {
     let mut items: Items = ListOf::new(alloc);
     items.push(Item::CountAll)?;
     items.push(Item::Sum(a()))?;
     items.push(Item::Min(a()))?;
-    query(alloc, items)
+    Ok(items)
+}
+
+/// `SELECT count(*), sum(a), min(a) FROM t`
+fn totals(alloc: Global) -> Result<Boxed<Query>, AllocError> {
+    let items = total_items(alloc)?;
+    let origin = Name::new(alloc, "t")?;
+    Boxed::new(alloc, query(alloc, origin, items))
 }
 
 /// `SELECT a FROM t`
-fn all(alloc: Global) -> Result<Query, AllocError> {
+fn all(alloc: Global) -> Result<Boxed<Query>, AllocError> {
     let mut items: Items = ListOf::new(alloc);
     items.push(Item::Plain(a()))?;
-    query(alloc, items)
+    let origin = Name::new(alloc, "t")?;
+    Boxed::new(alloc, query(alloc, origin, items))
 }
 
 /// Whether an answer is the one row.
@@ -81,28 +88,53 @@ fn is_overflow(found: &Result<Rows, StopOr>, wanted: i128) -> bool {
     }
 }
 
+/// Whether a query gives one row over rows of these numbers.
+fn gives(
+    alloc: Global,
+    query: &Query,
+    numbers: &[i64],
+    wanted: &[i64],
+) -> Result<bool, AllocError> {
+    let rows = rows(alloc, numbers)?;
+    let wanted = row(alloc, wanted)?;
+    Ok(is_row(&ask(alloc, query, &rows), &wanted))
+}
+
+/// Whether its total is this one, and no BIGINT.
+fn overflows(
+    alloc: Global,
+    query: &Query,
+    numbers: &[i64],
+    total: i128,
+) -> Result<bool, AllocError> {
+    let rows = rows(alloc, numbers)?;
+    Ok(is_overflow(&ask(alloc, query, &rows), total))
+}
+
 #[test]
 fn a_total_is_exact_on_its_way(rt: HostRuntime) -> Result<(), Fail> {
     let m = rt.alloc();
     let query = totals(m)?;
     let top = 9223372036854775807;
-    let one = ask(m, &query, &rows(m, &[top])?);
-    assert!(rt; is_row(&one, &row(m, &[1, top, top])?));
-    let two = ask(m, &query, &rows(m, &[top, 1])?);
-    assert!(rt; is_overflow(&two, 9223372036854775808));
-    let three = ask(m, &query, &rows(m, &[top, 1, -1])?);
-    assert!(rt; is_row(&three, &row(m, &[3, top, -1])?));
+    assert!(rt; gives(m, query.get(), &[top], &[1, top, top])?);
+    assert!(rt; overflows(m, query.get(), &[top, 1], 9223372036854775808)?);
+    assert!(rt; gives(m, query.get(), &[top, 1, -1], &[3, top, -1])?);
     Ok(())
 }
 
-/// `large EXPECT (a > 9) ON VIOLATION` with this action
+/// `large EXPECT (column > bound)` with this action
+fn expects(name: Name, column: Boxed<Expr>, bound: Boxed<Expr>, action: Action) -> Expectation {
+    let test = Expr::Compare(Comparison::Gt, column, bound);
+    Expectation { name, test, action }
+}
+
+/// `large EXPECT (a > 9)` with this action
 fn large(alloc: Global, action: Action) -> Result<Expectations, AllocError> {
     let column = Boxed::new(alloc, a())?;
     let bound = Boxed::new(alloc, Expr::Literal(Value::Big(9)))?;
     let name = Name::new(alloc, "large")?;
-    let test = Expr::Compare(Comparison::Gt, column, bound);
     let mut expectations: Expectations = ListOf::new(alloc);
-    expectations.push(Expectation { name, test, action })?;
+    expectations.push(expects(name, column, bound, action))?;
     Ok(expectations)
 }
 
@@ -126,17 +158,34 @@ fn fails(found: &Result<Judged, StopOr>) -> bool {
     matches!(found, Err(StopOr::Stop(Stop::Expect { .. })))
 }
 
+/// Whether a first refresh over 12, 3 and 10 keeps 10 and 12.
+fn drops(alloc: Global, query: &Query, source: &Rows) -> Result<bool, AllocError> {
+    let large = large(alloc, Action::DropRow)?;
+    let wanted = rows(alloc, &[10, 12])?;
+    Ok(holds(&refresh(alloc, query, &large, source), &wanted, 2, 1))
+}
+
+/// Whether it stops where a row may not fail.
+fn stops(alloc: Global, query: &Query, source: &Rows) -> Result<bool, AllocError> {
+    let large = large(alloc, Action::FailUpdate)?;
+    Ok(fails(&refresh(alloc, query, &large, source)))
+}
+
+/// Whether a warning keeps both of 10 and 3.
+fn warns(alloc: Global) -> Result<bool, AllocError> {
+    let large = large(alloc, Action::Warn)?;
+    let sorted = in_order(rows(alloc, &[10, 3])?)?;
+    let wanted = rows(alloc, &[3, 10])?;
+    Ok(holds(&judge(alloc, &large, &sorted), &wanted, 1, 1))
+}
+
 #[test]
 fn a_view_keeps_what_passes(rt: HostRuntime) -> Result<(), Fail> {
     let m = rt.alloc();
     let query = all(m)?;
     let source = rows(m, &[12, 3, 10])?;
-    let kept = refresh(m, &query, &large(m, Action::DropRow)?, &source);
-    assert!(rt; holds(&kept, &rows(m, &[10, 12])?, 2, 1));
-    let failed = refresh(m, &query, &large(m, Action::FailUpdate)?, &source);
-    assert!(rt; fails(&failed));
-    let sorted = in_order(rows(m, &[10, 3])?)?;
-    let judged = judge(m, &large(m, Action::Warn)?, &sorted);
-    assert!(rt; holds(&judged, &rows(m, &[3, 10])?, 1, 1));
+    assert!(rt; drops(m, query.get(), &source)?);
+    assert!(rt; stops(m, query.get(), &source)?);
+    assert!(rt; warns(m)?);
     Ok(())
 }
