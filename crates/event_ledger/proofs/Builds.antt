@@ -1,5 +1,5 @@
 -- A ledger that is built of events, from the last to the first.
-use Rattle.std.proofs.Common.{◌≡◌, ◌<◌, ◌≤◌, ◌+◌, ◌-◌, ℕ, zero, suc, Bool, true, false, if◌then◌else◌, List, [], ◌∷◌, length, drop, slice_index_or, refl, sym, ap, ◌∙◌, subst, arith}
+use Rattle.std.proofs.Common.{◌≡◌, ◌<◌, ◌≤◌, ◌-◌, ℕ, zero, suc, Bool, true, false, if◌then◌else◌, List, [], ◌∷◌, length, drop, slice_index_or, refl, sym, ap, ◌∙◌, subst, arith}
 use Rattle.std.specs.Ordering.{is_gt}
 use Rattle.value_core.specs.declared.event.Event.{Event}
 use Rattle.value_core.specs.EventOrder.{Standing, Fresh, Repeat, Tied, event_order, placed_by, same_event, same_moment, sorted_by, standing}

@@ -1,11 +1,11 @@
 -- One event in the history of its key.
-use Rattle.std.proofs.Common.{◌≡◌, ◌<◌, ◌≤◌, ◌+◌, ◌&&◌, ℕ, zero, suc, Bool, true, false, if◌then◌else◌, List, [], ◌∷◌, ◌++◌, length, take, drop, slice_index_or, Result, Ok, Err, IfOk, OnErr, refl, sym, ap, ◌∙◌, subst, arith}
+use Rattle.std.proofs.Common.{◌≡◌, ◌<◌, ◌&&◌, ℕ, zero, suc, Bool, true, false, if◌then◌else◌, List, [], ◌∷◌, ◌++◌, length, take, drop, slice_index_or, Result, Ok, Err, IfOk, OnErr, refl, sym, ap, ◌∙◌, subst, arith}
 use Rattle.std.specs.declared.cmp.Ordering.{Ordering}
-use Rattle.std.specs.declared.cmp.Ordering.TheVariants.{Less, Equal, Greater}
+use Rattle.std.specs.declared.cmp.Ordering.TheVariants.{Less, Greater}
 use Rattle.std.specs.Ordering.{is_eq, is_gt, nat_cmp, ordering_reverse, ordering_then}
 use Rattle.value_core.specs.declared.event.Event.{Event}
 use Rattle.value_core.specs.Order.{Row, row_order, same_row}
-use Rattle.value_core.specs.OrderLaws.{row_order_total, rows_apart, same_row_laws}
+use Rattle.value_core.specs.OrderLaws.{row_order_total, same_row_laws}
 use Rattle.value_core.specs.EventOrder.{Standing, Fresh, Repeat, Tied, history_order, kind_rank, same_event, same_moment, standing}
 use Rattle.event_history.specs.declared.history.Entry.{Entry}
 use Rattle.event_history.specs.Histories.{AllAbove, AllBelow, AreAscending, events_of}
