@@ -6,6 +6,7 @@ use crate::{
 };
 use event_history::{History, Place};
 use plan_core::{Cdc, Origin};
+use sqlite_items::Boxed;
 use std::alloc::{AllocError, Global};
 use std::marker::Brand;
 use std::process::Abort;
@@ -39,17 +40,11 @@ fn event(alloc: Global, sequence: i64, columns: &[i64]) -> Result<Event, AllocEr
     })
 }
 
-/// A flow that keeps histories and tracks the first columns.
-fn flow(alloc: Global, ignore_null: bool, tracked: &[u32]) -> Result<Cdc, AllocError> {
-    let mut places: Places = ListOf::new(alloc);
-    for place in tracked {
-        places.push(*place)?;
-    }
-    Ok(Cdc {
-        name: Name::new(alloc, "f")?,
-        origin: Origin::Table {
-            name: Name::new(alloc, "source")?,
-        },
+/// A flow from a table that keeps histories.
+fn keeping(alloc: Global, name: Name, source: Name, ignore_null: bool, tracked: Places) -> Cdc {
+    Cdc {
+        name,
+        origin: Origin::Table { name: source },
         keys: ListOf::new(alloc),
         sequence: ListOf::new(alloc),
         delete_when: None,
@@ -57,8 +52,24 @@ fn flow(alloc: Global, ignore_null: bool, tracked: &[u32]) -> Result<Cdc, AllocE
         outputs: ListOf::new(alloc),
         ignore_null,
         scd2: true,
-        tracked: places,
-    })
+        tracked,
+    }
+}
+
+fn places(alloc: Global, numbers: &[u32]) -> Result<Places, AllocError> {
+    let mut places: Places = ListOf::new(alloc);
+    for number in numbers {
+        places.push(*number)?;
+    }
+    Ok(places)
+}
+
+/// A flow that keeps histories and tracks these columns.
+fn flow(alloc: Global, ignore_null: bool, tracked: &[u32]) -> Result<Boxed<Cdc>, AllocError> {
+    let name = Name::new(alloc, "f")?;
+    let source = Name::new(alloc, "source")?;
+    let tracked = places(alloc, tracked)?;
+    Boxed::new(alloc, keeping(alloc, name, source, ignore_null, tracked))
 }
 
 /// Puts one line into a history, a sequence and columns, and answers the change.
@@ -133,7 +144,7 @@ fn is_change(
 fn late_split<L: Ledger>(alloc: Global, steps: &mut Steps<L>) -> Result<bool, AllocError> {
     let flow = flow(alloc, false, &[0])?;
     let lines: &[&[i64]] = &[&[1, 11, 21], &[5, 11, 22], &[6], &[3, 12, 23]];
-    let change = last_change(alloc, &flow, lines, steps)?;
+    let change = last_change(alloc, flow.get(), lines, steps)?;
     let added: &[&[i64]] = &[&[11, 21, 1, 3], &[11, 22, 5, 6], &[12, 23, 3, 5]];
     is_change(alloc, &change, &[&[11, 22, 1, 6]], added)
 }
@@ -142,7 +153,7 @@ fn late_split<L: Ledger>(alloc: Global, steps: &mut Steps<L>) -> Result<bool, Al
 fn late_null<L: Ledger>(alloc: Global, steps: &mut Steps<L>) -> Result<bool, AllocError> {
     let flow = flow(alloc, true, &[0, 1])?;
     let lines: &[&[i64]] = &[&[1, 31, 41], &[3, 0, 42], &[2, 32, 0]];
-    let change = last_change(alloc, &flow, lines, steps)?;
+    let change = last_change(alloc, flow.get(), lines, steps)?;
     let removed: &[&[i64]] = &[&[31, 41, 1, 3], &[31, 42, 3, 0]];
     let added: &[&[i64]] = &[&[31, 41, 1, 2], &[32, 41, 2, 3], &[32, 42, 3, 0]];
     is_change(alloc, &change, removed, added)
@@ -152,7 +163,7 @@ fn late_null<L: Ledger>(alloc: Global, steps: &mut Steps<L>) -> Result<bool, All
 fn quiet<L: Ledger>(alloc: Global, steps: &mut Steps<L>) -> Result<bool, AllocError> {
     let flow = flow(alloc, false, &[0])?;
     let lines: &[&[i64]] = &[&[1, 11], &[2, 11], &[5, 11], &[6, 11], &[3, 11]];
-    let change = last_change(alloc, &flow, lines, steps)?;
+    let change = last_change(alloc, flow.get(), lines, steps)?;
     is_change(alloc, &change, &[], &[])
 }
 
