@@ -52,6 +52,7 @@ fn place_of(trail: &[u32], node: u32) -> Option<usize>
 /// The part of a trail from a place on, and behind it the node that stands there.
 fn path_from(
     alloc: Global,
+    count: u32,
     edges: &[(u32, u32)],
     trail: &[u32],
     place: usize,
@@ -61,7 +62,10 @@ fn path_from(
     requires again { slice_index trail.now place ≡ node }
     requires trail { IsTrail edges.now (trail.now ++ node ∷ []) }
     requires distinct { AllPairs (λ x y. x ≢ y) trail.now }
-    ensures { IfOk result (λ path. IsCyclePath edges.now path) }
+    requires below { All (λ x. x < count) trail.now }
+    requires inside { node < count }
+    ensures path { IfOk result (λ path. IsCyclePath edges.now path) }
+    ensures within { IfOk result (λ path. All (λ x. x < count) path) }
 {
     let (_, part) = trail.split_at(place);
     let mut path = Vec::from_slice(alloc, part)?;
@@ -81,13 +85,14 @@ pub(crate) fn cycle_path(
     requires shown { ShowLevels count edges.now heights.now }
     requires below { start < count }
     requires least { IsLeastWithout edges.now start }
-    ensures { IfOk result (λ path. IsCyclePath edges.now path) }
+    ensures path { IfOk result (λ path. IsCyclePath edges.now path) }
+    ensures within { IfOk result (λ path. All (λ x. x < count) path) }
 {
     let mut trail = Vec::new(alloc);
     let mut node = start;
     'walk: loop {
         if let Some(place) = place_of(trail.as_slice(), node) {
-            return path_from(alloc, edges, trail.as_slice(), place, node);
+            return path_from(alloc, count, edges, trail.as_slice(), place, node);
         }
         trail.push(node)?;
         node = next_of(count, edges, heights, node);

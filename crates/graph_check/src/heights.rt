@@ -1,5 +1,6 @@
 // Levels by rounds: after so many rounds a node's height is the length of its longest walk, or the number of rounds where that is less.
 ghost use Rattle.std.specs.Prelude.{◌≡◌, ◌≤◌, ◌<◌, ◌+◌, ◌^◌, ◌≢◌, ℕ, IfOk, IfErr, IfSome, IfNone, length, slice_index, slice_set};
+ghost use Rattle.std.specs.List.{All};
 ghost use Rattle.graph_check.specs.Graphs.{AreWithin, IsCyclic};
 ghost use Rattle.graph_check.specs.Levels.{AreLevels};
 ghost use Rattle.graph_check.specs.Paths.{IsCyclePath};
@@ -83,6 +84,7 @@ pub fn levels(alloc: Global, count: u32, edges: &[(u32, u32)]) -> Result<LevelLi
     ensures no_cycle { IfOk result (λ _. IsCyclic edges.now → ⊥) }
     ensures cycle { IfErr result (λ e. IfCycle e (λ _. IsCyclic edges.now)) }
     ensures path { IfErr result (λ e. IfCycle e (λ path. IsCyclePath edges.now path)) }
+    ensures within { IfErr result (λ e. IfCycle e (λ path. All (λ node. node < count) path)) }
 {
     let mut heights = vec![in alloc; 0; count as usize]?;
     for round in 0..count {
