@@ -1,7 +1,7 @@
 use crate::{Break, CheckFault, dataset_name, first_break, flow_name};
 use sql_tree::{
-    CdcTree, Out, Outs, Select, SqlAction, SqlExpr, SqlExprs, SqlItem, SqlItems, SqlOrigin,
-    SqlSequence, SqlSome, SqlType, Statement, Statements,
+    CdcTree, Out, Select, SqlAction, SqlExpr, SqlItem, SqlOrigin, SqlSequence, SqlSome, SqlType,
+    Statement,
 };
 use sqlite_items::Items;
 use std::alloc::{AllocError, Global};
@@ -43,86 +43,142 @@ fn expectation(name: Name) -> SqlItem {
     }
 }
 
-fn table(name: Name, items: Vec<SqlItem>) -> Statement {
+fn table(name: Name, items: Vec<SqlItem>, select: Option<Select>) -> Statement {
     Statement::Table {
         name,
         items: Items::from_vec(items),
-        select: None,
+        select,
     }
 }
 
-fn select(alloc: Global, except: Names) -> Result<Select, AllocError> {
-    let mut outs = Vec::new(alloc);
-    outs.push(Out::Star { except })?;
-    let name = Name::new(alloc, "source")?;
-    Ok(Select {
+/// `SELECT * EXCEPT (..) FROM STREAM source`
+fn select(alloc: Global, outs: Vec<Out>, source: Name) -> Select {
+    Select {
         outs: Items::from_vec(outs),
-        origin: SqlOrigin::Table { stream: true, name },
+        origin: SqlOrigin::Table {
+            stream: true,
+            name: source,
+        },
         filter: None,
         groups: Items::new(alloc),
-    })
+    }
 }
 
-fn table_as(alloc: Global, name: &str, except: Names) -> Result<Statement, AllocError> {
-    let select = select(alloc, except)?;
-    let name = Name::new(alloc, name)?;
-    Ok(Statement::Table {
-        name,
-        items: Items::new(alloc),
-        select: Some(select),
-    })
-}
-
-fn insert(alloc: Global, flow: Name) -> Result<Statement, AllocError> {
-    let select = select(alloc, ListOf::new(alloc))?;
-    let target = Name::new(alloc, "target")?;
-    Ok(Statement::Insert {
+fn insert(flow: Name, target: Name, select: Select) -> Statement {
+    Statement::Insert {
         flow,
         target,
         select,
-    })
+    }
 }
 
-fn feed(
-    alloc: Global,
+fn feed(names: FeedNames, lists: FeedLists) -> Statement {
+    Statement::Cdc {
+        flow: names.flow,
+        rest: CdcTree {
+            target: names.target,
+            origin: SqlOrigin::Table {
+                stream: true,
+                name: names.source,
+            },
+            keys: lists.keys,
+            ignore_null: false,
+            delete_when: None,
+            truncate_when: None,
+            sequence: lists.sequence,
+            columns: lists.columns,
+            scd: Some(2),
+            track: lists.track,
+        },
+    }
+}
+
+#[derive(Drop)]
+struct FeedNames {
+    flow: Name,
+    target: Name,
+    source: Name,
+}
+
+#[derive(Drop)]
+struct FeedLists {
     keys: Names,
     sequence: SqlSequence,
     columns: Option<SqlSome>,
     track: Option<SqlSome>,
-) -> Result<Statement, AllocError> {
+}
+
+fn feed_names(alloc: Global) -> Result<FeedNames, AllocError> {
     let flow = Name::new(alloc, "feed")?;
     let target = Name::new(alloc, "target")?;
-    let name = Name::new(alloc, "source")?;
-    Ok(Statement::Cdc {
+    let source = Name::new(alloc, "source")?;
+    Ok(FeedNames {
         flow,
-        rest: CdcTree {
-            target,
-            origin: SqlOrigin::Table { stream: true, name },
-            keys,
-            ignore_null: false,
-            delete_when: None,
-            truncate_when: None,
-            sequence,
-            columns,
-            scd: Some(2),
-            track,
-        },
+        target,
+        source,
     })
+}
+
+fn outs(alloc: Global, except: Names) -> Result<Vec<Out>, AllocError> {
+    let mut outs = Vec::new(alloc);
+    outs.push(Out::Star { except })?;
+    Ok(outs)
+}
+
+// ---- statements behind others
+
+fn add_table(
+    statements: &mut Vec<Statement>,
+    name: Name,
+    items: Vec<SqlItem>,
+) -> Result<(), AllocError> {
+    statements.push(table(name, items, None))?;
+    Ok(())
+}
+
+fn add_table_as(
+    statements: &mut Vec<Statement>,
+    alloc: Global,
+    except: Names,
+) -> Result<(), AllocError> {
+    let outs = outs(alloc, except)?;
+    let source = Name::new(alloc, "source")?;
+    let name = Name::new(alloc, "t")?;
+    let items = Vec::new(alloc);
+    statements.push(table(name, items, Some(select(alloc, outs, source))))?;
+    Ok(())
+}
+
+fn add_insert(
+    statements: &mut Vec<Statement>,
+    alloc: Global,
+    flow: Name,
+) -> Result<(), AllocError> {
+    let outs = outs(alloc, ListOf::new(alloc))?;
+    let source = Name::new(alloc, "source")?;
+    let target = Name::new(alloc, "target")?;
+    statements.push(insert(flow, target, select(alloc, outs, source)))?;
+    Ok(())
 }
 
 // ---- what is found
 
-fn one(alloc: Global, statement: Statement) -> Result<Option<Break>, AllocError> {
-    let mut statements = Vec::new(alloc);
-    statements.push(statement)?;
+fn found(alloc: Global, statements: Vec<Statement>) -> Result<Option<Break>, AllocError> {
     first_break(alloc, &Items::from_vec(statements))
 }
 
-fn two(alloc: Global, first: Statement, second: Statement) -> Result<Option<Break>, AllocError> {
+// Of one table with these items.
+fn in_table(alloc: Global, items: Vec<SqlItem>) -> Result<Option<Break>, AllocError> {
     let mut statements = Vec::new(alloc);
-    statements.push(first)?;
-    statements.push(second)?;
-    first_break(alloc, &Items::from_vec(statements))
+    add_table(&mut statements, Name::new(alloc, "t")?, items)?;
+    found(alloc, statements)
+}
+
+// Of one change feed.
+fn in_feed(alloc: Global, lists: FeedLists) -> Result<Option<Break>, AllocError> {
+    let mut statements = Vec::new(alloc);
+    statements.push(feed(feed_names(alloc)?, lists))?;
+    found(alloc, statements)
 }
 
 fn is_repeat(found: Option<Break>, statement: u32, name: &str) -> bool {
@@ -151,50 +207,102 @@ fn is_limit(found: Option<Break>, statement: u32, count: u32) -> bool {
 
 // ---- rows
 
+// A table without AS is a dataset and has no flow.
+fn is_dataset_alone(alloc: Global) -> Result<bool, AllocError> {
+    let orders = table(Name::new(alloc, "Orders")?, Vec::new(alloc), None);
+    Ok(dataset_name(&orders).is_some() && flow_name(&orders).is_none())
+}
+
 fn tables_of_one_name(alloc: Global) -> Result<bool, AllocError> {
-    let first = table(Name::new(alloc, "Orders")?, Vec::new(alloc));
-    let second = table(Name::new(alloc, "orders")?, Vec::new(alloc));
-    Ok(is_repeat(two(alloc, first, second)?, 2, "orders"))
+    let mut statements = Vec::new(alloc);
+    add_table(
+        &mut statements,
+        Name::new(alloc, "Orders")?,
+        Vec::new(alloc),
+    )?;
+    add_table(
+        &mut statements,
+        Name::new(alloc, "orders")?,
+        Vec::new(alloc),
+    )?;
+    Ok(is_repeat(found(alloc, statements)?, 2, "orders"))
 }
 
-// A table with AS has a flow of its name, and one without has none.
-fn flow_of_a_table(alloc: Global, with_as: bool) -> Result<Option<Break>, AllocError> {
-    let second = insert(alloc, Name::new(alloc, "T")?)?;
-    let first = if with_as {
-        table_as(alloc, "t", ListOf::new(alloc))?
-    } else {
-        table(Name::new(alloc, "t")?, Vec::new(alloc))
-    };
-    two(alloc, first, second)
+// A table with AS has a flow of its name.
+fn flow_of_a_table(alloc: Global) -> Result<Option<Break>, AllocError> {
+    let mut statements = Vec::new(alloc);
+    add_table_as(&mut statements, alloc, ListOf::new(alloc))?;
+    add_insert(&mut statements, alloc, Name::new(alloc, "T")?)?;
+    found(alloc, statements)
 }
 
-// Columns `a` and `b`, an expectation `a`, and this item behind them.
-fn items_with(alloc: Global, last: SqlItem) -> Result<Option<Break>, AllocError> {
+// One without has none.
+fn no_flow_of_a_table(alloc: Global) -> Result<Option<Break>, AllocError> {
+    let mut statements = Vec::new(alloc);
+    add_table(&mut statements, Name::new(alloc, "t")?, Vec::new(alloc))?;
+    add_insert(&mut statements, alloc, Name::new(alloc, "T")?)?;
+    found(alloc, statements)
+}
+
+// A column `a` and an expectation `a`.
+fn alike(alloc: Global) -> Result<Vec<SqlItem>, AllocError> {
     let mut items = Vec::new(alloc);
     items.push(column(Name::new(alloc, "a")?))?;
     items.push(expectation(Name::new(alloc, "a")?))?;
-    items.push(last)?;
-    one(alloc, table(Name::new(alloc, "t")?, items))
+    Ok(items)
+}
+
+fn one_more_column(alloc: Global) -> Result<Option<Break>, AllocError> {
+    let mut items = alike(alloc)?;
+    items.push(column(Name::new(alloc, "A")?))?;
+    in_table(alloc, items)
+}
+
+fn one_more_expectation(alloc: Global) -> Result<Option<Break>, AllocError> {
+    let mut items = alike(alloc)?;
+    items.push(expectation(Name::new(alloc, "b")?))?;
+    in_table(alloc, items)
 }
 
 fn keys(alloc: Global, keys: Names) -> Result<Option<Break>, AllocError> {
     let sequence = SqlSequence::One(Name::new(alloc, "at")?);
-    one(alloc, feed(alloc, keys, sequence, None, None)?)
+    let lists = FeedLists {
+        keys,
+        sequence,
+        columns: None,
+        track: None,
+    };
+    in_feed(alloc, lists)
 }
 
 fn parts(alloc: Global, parts: Names) -> Result<Option<Break>, AllocError> {
-    let sequence = SqlSequence::Struct(parts);
     let keys = names(alloc, &["id"])?;
-    one(alloc, feed(alloc, keys, sequence, None, None)?)
+    let lists = FeedLists {
+        keys,
+        sequence: SqlSequence::Struct(parts),
+        columns: None,
+        track: None,
+    };
+    in_feed(alloc, lists)
 }
 
 // COLUMNS and TRACK HISTORY ON.
 fn lists(alloc: Global, columns: Names, track: Names) -> Result<Option<Break>, AllocError> {
-    let sequence = SqlSequence::One(Name::new(alloc, "at")?);
+    let at = Name::new(alloc, "at")?;
     let keys = names(alloc, &["id"])?;
-    let columns = Some(SqlSome::Only(columns));
-    let track = Some(SqlSome::Except(track));
-    one(alloc, feed(alloc, keys, sequence, columns, track)?)
+    let lists = FeedLists {
+        keys,
+        sequence: SqlSequence::One(at),
+        columns: Some(SqlSome::Only(columns)),
+        track: Some(SqlSome::Except(track)),
+    };
+    in_feed(alloc, lists)
+}
+
+fn excepted(alloc: Global, except: Names) -> Result<Option<Break>, AllocError> {
+    let mut statements = Vec::new(alloc);
+    add_table_as(&mut statements, alloc, except)?;
+    found(alloc, statements)
 }
 
 fn columns_in(alloc: Global, count: u32) -> Result<Option<Break>, AllocError> {
@@ -203,7 +311,7 @@ fn columns_in(alloc: Global, count: u32) -> Result<Option<Break>, AllocError> {
         let text = format!(in alloc; "n{number}")?;
         items.push(column(Name::from_string(text)))?;
     }
-    one(alloc, table(Name::new(alloc, "t")?, items))
+    in_table(alloc, items)
 }
 
 fn expectations_in(alloc: Global, count: u32) -> Result<Option<Break>, AllocError> {
@@ -212,33 +320,34 @@ fn expectations_in(alloc: Global, count: u32) -> Result<Option<Break>, AllocErro
         let text = format!(in alloc; "n{number}")?;
         items.push(expectation(Name::from_string(text)))?;
     }
-    one(alloc, table(Name::new(alloc, "t")?, items))
+    in_table(alloc, items)
 }
 
 fn tables_in(alloc: Global, count: u32) -> Result<Option<Break>, AllocError> {
     let mut statements = Vec::new(alloc);
     for number in 0..count {
         let text = format!(in alloc; "n{number}")?;
-        statements.push(table(Name::from_string(text), Vec::new(alloc)))?;
+        add_table(&mut statements, Name::from_string(text), Vec::new(alloc))?;
     }
-    first_break(alloc, &Items::from_vec(statements))
+    found(alloc, statements)
 }
 
 fn flows_in(alloc: Global, count: u32) -> Result<Option<Break>, AllocError> {
     let mut statements = Vec::new(alloc);
     for number in 0..count {
         let text = format!(in alloc; "n{number}")?;
-        statements.push(insert(alloc, Name::from_string(text))?)?;
+        add_insert(&mut statements, alloc, Name::from_string(text))?;
     }
-    first_break(alloc, &Items::from_vec(statements))
+    found(alloc, statements)
 }
 
 #[test]
 fn datasets_and_flows(rt: HostRuntime) -> Result<(), Fail> {
     let alloc = rt.alloc();
+    assert!(rt; is_dataset_alone(alloc)?);
     assert!(rt; tables_of_one_name(alloc)?);
-    assert!(rt; is_repeat(flow_of_a_table(alloc, true)?, 2, "T"));
-    assert!(rt; flow_of_a_table(alloc, false)?.is_none());
+    assert!(rt; is_repeat(flow_of_a_table(alloc)?, 2, "T"));
+    assert!(rt; no_flow_of_a_table(alloc)?.is_none());
     assert!(rt; is_limit(tables_in(alloc, 257)?, 257, 257));
     assert!(rt; is_limit(flows_in(alloc, 1025)?, 1025, 1025));
     Ok(())
@@ -247,10 +356,8 @@ fn datasets_and_flows(rt: HostRuntime) -> Result<(), Fail> {
 #[test]
 fn columns_and_expectations(rt: HostRuntime) -> Result<(), Fail> {
     let alloc = rt.alloc();
-    let repeat = column(Name::new(alloc, "A")?);
-    assert!(rt; is_repeat(items_with(alloc, repeat)?, 1, "A"));
-    let other = expectation(Name::new(alloc, "b")?);
-    assert!(rt; items_with(alloc, other)?.is_none());
+    assert!(rt; is_repeat(one_more_column(alloc)?, 1, "A"));
+    assert!(rt; one_more_expectation(alloc)?.is_none());
     assert!(rt; is_limit(columns_in(alloc, 257)?, 1, 257));
     assert!(rt; is_limit(expectations_in(alloc, 33)?, 1, 33));
     Ok(())
@@ -269,15 +376,9 @@ fn lists_of_names(rt: HostRuntime) -> Result<(), Fail> {
 #[test]
 fn lists_of_columns(rt: HostRuntime) -> Result<(), Fail> {
     let alloc = rt.alloc();
+    let columns = names(alloc, &["a", "b", "B"])?;
     let track = names(alloc, &["y", "Y"])?;
-    assert!(rt;
-        is_repeat(
-            lists(alloc, names(alloc, &["a", "b", "B"])?, track)?,
-            1,
-            "B"
-        )
-    );
-    let except = table_as(alloc, "t", names(alloc, &["c", "d", "C"])?)?;
-    assert!(rt; is_repeat(one(alloc, except)?, 1, "C"));
+    assert!(rt; is_repeat(lists(alloc, columns, track)?, 1, "B"));
+    assert!(rt; is_repeat(excepted(alloc, names(alloc, &["c", "d", "C"])?)?, 1, "C"));
     Ok(())
 }
