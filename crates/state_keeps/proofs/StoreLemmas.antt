@@ -15,7 +15,7 @@ use Rattle.commit_payloads.specs.Forms as forms
 use Rattle.commit_payloads.specs.Forms.{AreDefinitions, IsBase, IsKept, fits_its_body}
 use Rattle.state_model.specs.After.{after_payload, begun, emptied, emptied_if, emptying, is_member, refreshed, reset, taken, updated}
 use Rattle.state_model.specs.Dataset.{Dataset, State, content, dataset_of, definition_of, definitions_of, is_named, version_of}
-use Rattle.state_model.specs.Follows.{AllFitStored, AllHaveVersions, Fits, FitsRefresh, FitsTake, Follows, HasVersions, IsStore, are_distinct}
+use Rattle.state_model.specs.Follows.{AllFitStored, AllHaveVersions, Fits, FitsRefresh, FitsTake, MayFollow, HasVersions, IsStore, are_distinct}
 use Rattle.state_model.specs.Saved.{compacted, folded_for, kept_of, read_back, saved, side_by_side}
 use Rattle.state_model.proofs.StateLemmas.{definitions-defined, definitions-reset, definitions-updated, saved-read_back}
 use Rattle.state_keeps.specs.Stored.{IsStored}
@@ -159,7 +159,7 @@ module _ (state : State) (stored : IsStored state) where
   goods : AllGood state state
   goods = goods_of state state stored.store.each stored.form.kept
 
-  define_keeps : (is_fresh : Bool) (list : List Definition) → Follows state (payload.Define is_fresh list) → AllGood (after_payload state (payload.Define is_fresh list)) (after_payload state (payload.Define is_fresh list))
+  define_keeps : (is_fresh : Bool) (list : List Definition) → MayFollow state (payload.Define is_fresh list) → AllGood (after_payload state (payload.Define is_fresh list)) (after_payload state (payload.Define is_fresh list))
       → IsStored (after_payload state (payload.Define is_fresh list))
   define_keeps is_fresh list follows all =
       let now : State = after_payload state (payload.Define is_fresh list) in
@@ -169,7 +169,7 @@ module _ (state : State) (stored : IsStored state) where
   same_keeps : (now : State) → definitions_of now ≡ definitions_of state → AllGood now now → IsStored now
   same_keeps now same all = stored_of now (ap are_distinct same ∙ stored.store.distinct) (ap forms.all_fit same ∙ stored.form.definitions) all
 
-  take_keeps : (batch : Take) → Follows state (payload.Take batch) → IsStored (after_payload state (payload.Take batch))
+  take_keeps : (batch : Take) → MayFollow state (payload.Take batch) → IsStored (after_payload state (payload.Take batch))
   take_keeps batch follows =
       let now : State = after_payload state (payload.Take batch) in
       let rises : Rises state now = updated_rises (taken batch) (λ d. refl) (λ d. grown_rises d.table batch.change) batch.table state in
@@ -178,7 +178,7 @@ module _ (state : State) (stored : IsStored state) where
       (λ d e good. taken_good state batch d good (some_there (FitsTake state batch) (dataset_of state batch.table) d follows.fits e) follows.spelled.1 (if_there (λ w. version_of w < 2 ^ 62) (dataset_of state batch.table) d follows.versions e)) goods in
       same_keeps now (definitions-updated batch.table (taken batch) state (λ x. refl)) (goods_rise state now rises now all)
 
-  refresh_keeps : (refresh : Refresh) → Follows state (payload.Refresh refresh) → IsStored (after_payload state (payload.Refresh refresh))
+  refresh_keeps : (refresh : Refresh) → MayFollow state (payload.Refresh refresh) → IsStored (after_payload state (payload.Refresh refresh))
   refresh_keeps refresh follows =
       let now : State = after_payload state (payload.Refresh refresh) in
       let rises : Rises state now = updated_rises (refreshed refresh) (λ d. refl) (λ d. grown_rises d.table refresh.change) refresh.view state in
@@ -188,17 +188,17 @@ module _ (state : State) (stored : IsStored state) where
       (if_there (λ w. version_of w < 2 ^ 62) (dataset_of state refresh.view) d follows.versions e)) goods in
       same_keeps now (definitions-updated refresh.view (refreshed refresh) state (λ x. refl)) (goods_rise state now rises now all)
 
-  reset_keeps : (names : List (List ℕ)) → Follows state (payload.Reset names) → IsStored (after_payload state (payload.Reset names))
+  reset_keeps : (names : List (List ℕ)) → MayFollow state (payload.Reset names) → IsStored (after_payload state (payload.Reset names))
   reset_keeps names follows =
       let now : State = after_payload state (payload.Reset names) in
       let rises : Rises state now = mapped_rises (emptied_if names) (λ d. same_by state names follows.versions d (is_member names d)) (λ d. more_by state names follows.versions d (is_member names d)) state in
       let all : AllGood state now = emptied_all state names follows.versions state (all_found state stored.store.distinct) goods in
       same_keeps now (definitions-reset names state) (goods_rise state now rises now all)
 
-  base_keeps : (base : Saved) → Follows state (payload.Base base) → IsStored (read_back base)
+  base_keeps : (base : Saved) → MayFollow state (payload.Base base) → IsStored (read_back base)
   base_keeps base follows = record { store = follows.fits.store; form = subst IsBase (sym (saved_back base follows.spelled.1.one_each)) follows.spelled.1 }
 
-pub follows_keep : (state : State) (commit : Payload) → IsStored state → Follows state commit → IsStored (after_payload state commit)
+pub follows_keep : (state : State) (commit : Payload) → IsStored state → MayFollow state commit → IsStored (after_payload state commit)
 follows_keep state (payload.Define true list) stored follows = define_keeps state stored true list follows (begun_all (map begun list) list)
 follows_keep state (payload.Define false list) stored follows =
     let behind : State = map begun (drop (length state) list) in

@@ -5,7 +5,7 @@ use Rattle.std.specs.Prelude.{IfSome, IsSomeAnd, nat_lt}
 use Rattle.commit_payloads.specs.declared.payload.Payload.{Payload}
 use Rattle.commit_payloads.specs.declared.payload.Payload.TheVariants as payload
 use Rattle.state_model.specs.Dataset.{Dataset, State, dataset_of, version_of}
-use Rattle.state_model.specs.Follows.{AllHaveVersions, IsFull, IsFullOf, WithinVersions}
+use Rattle.state_model.specs.Follows.{AllHaveVersions, IsAtLimit, IsFullOf, WithinVersions}
 
 below_or_not : (n limit : ℕ) → (n < limit) ⊎ (limit ≤ n)
 below_or_not n limit = by (nat_lt n limit) refl
@@ -35,14 +35,14 @@ all_never : (state : State) (names : List (List ℕ)) (name : List ℕ) → AllH
 all_never state [] full h k = k
 all_never state (name ∷ names) full h k = elim k [ inl full_here ↦ never_by (dataset_of state name) full h.0 full_here | inr behind ↦ all_never state names full h.1 behind.1 ]
 
-pub within_or_full : (state : State) (body : Payload) → WithinVersions state body ⊎ ((name : List ℕ) × IsFull state body name)
+pub within_or_full : (state : State) (body : Payload) → WithinVersions state body ⊎ ((name : List ℕ) × IsAtLimit state body name)
 within_or_full state (payload.Define is_fresh list) = inl tt
 within_or_full state (payload.Take batch) = one_by (dataset_of state batch.table)
 within_or_full state (payload.Refresh renewal) = one_by (dataset_of state renewal.view)
 within_or_full state (payload.Reset names) = all_by state names
 within_or_full state (payload.Base base) = inl tt
 
-pub never_both : (state : State) (body : Payload) (name : List ℕ) → WithinVersions state body → IsFull state body name → ⊥
+pub never_both : (state : State) (body : Payload) (name : List ℕ) → WithinVersions state body → IsAtLimit state body name → ⊥
 never_both state (payload.Define is_fresh list) name h k = k
 never_both state (payload.Take batch) name h k = never_by (dataset_of state batch.table) name h k
 never_both state (payload.Refresh renewal) name h k = never_by (dataset_of state renewal.view) name h k

@@ -282,15 +282,15 @@ WithinVersions state (payload.Reset names) = AllHaveVersions state names
 WithinVersions state (payload.Base base) = ⊤
 
 -- the name of a dataset at the limit to which the payload would add a version
-abbrev pub IsFull : State → Payload → List ℕ → Type 0
-IsFull state (payload.Define fresh list) name = ⊥
-IsFull state (payload.Take batch) name = IsFullTable state batch.table name
-IsFull state (payload.Refresh refresh) name = IsFullTable state refresh.view name
-IsFull state (payload.Reset names) name = IsFullOf state names name
-IsFull state (payload.Base base) name = ⊥
+abbrev pub IsAtLimit : State → Payload → List ℕ → Type 0
+IsAtLimit state (payload.Define fresh list) name = ⊥
+IsAtLimit state (payload.Take batch) name = IsFullTable state batch.table name
+IsAtLimit state (payload.Refresh refresh) name = IsFullTable state refresh.view name
+IsAtLimit state (payload.Reset names) name = IsFullOf state names name
+IsAtLimit state (payload.Base base) name = ⊥
 
 -- a payload follows a state
-pub record Follows (state : State) (payload : Payload) : Type 0 where
+pub record MayFollow (state : State) (payload : Payload) : Type 0 where
   pub spelled : HasSpelling payload
   pub fits : Fits state payload
   pub versions : WithinVersions state payload

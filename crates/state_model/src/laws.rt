@@ -2,7 +2,7 @@ ghost use Rattle.std.specs.Prelude.{◌≡◌, ◌⊎◌, true, ℕ, List, [], �
 ghost use Rattle.commit_payloads.specs.declared.payload.Payload.{Payload};
 ghost use Rattle.state_model.specs.After.{after_payload, state_after};
 ghost use Rattle.state_model.specs.Dataset.{State, definitions_of};
-ghost use Rattle.state_model.specs.Follows.{Fits, IsFull, WithinVersions, are_distinct};
+ghost use Rattle.state_model.specs.Follows.{Fits, IsAtLimit, WithinVersions, are_distinct};
 ghost use Rattle.state_model.specs.Saved.{read_back, saved};
 ghost use Rattle.state_model.specs.Worked as worked;
 
@@ -24,8 +24,8 @@ pub fn names_stay_distinct()
 /// A law: either each dataset to which a payload adds a version has one left, or a dataset is named that stands at the
 /// limit of versions, and never both.
 pub fn versions_are_left_or_one_is_full()
-    ensures either { (state : State) (payload : Payload) → WithinVersions state payload ⊎ ((name : List ℕ) × IsFull state payload name) }
-    ensures not_both { (state : State) (payload : Payload) (name : List ℕ) → WithinVersions state payload → IsFull state payload name → ⊥ }
+    ensures either { (state : State) (payload : Payload) → WithinVersions state payload ⊎ ((name : List ℕ) × IsAtLimit state payload name) }
+    ensures not_both { (state : State) (payload : Payload) (name : List ℕ) → WithinVersions state payload → IsAtLimit state payload name → ⊥ }
 {}
 
 /// A law: the payloads that were worked by hand.

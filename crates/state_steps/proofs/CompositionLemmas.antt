@@ -10,7 +10,7 @@ use Rattle.state_model.specs.Saved.{compacted, read_back}
 use Rattle.state_model.proofs.StateLemmas.{saved-read_back}
 use Rattle.state_steps.specs.Parts.{IsOf, definition_of}
 use Rattle.state_steps.specs.Stands.{Stands}
-use Rattle.state_steps.specs.Steps.{Commits, Standing, Step, Commit, Grow, Steps, Done, More}
+use Rattle.state_steps.specs.Steps.{Commits, Situation, Step, Commit, Grow, Steps, Done, More}
 use Rattle.state_steps.proofs.CompactLemmas.{compact_stands}
 use Rattle.state_steps.proofs.DefineLemmas.{define_stands, grow_stands}
 use Rattle.state_steps.proofs.ResetLemmas.{reset_stands}
@@ -25,14 +25,14 @@ commit_stands parts new ever state (payload.Base base) stands commits =
     let folded : read_back base ≡ compacted state = ap read_back commits.1 ∙ saved-read_back (compacted state) in
     subst (λ p. Stands p ever (read_back base)) (sym commits.0) (subst (Stands parts ever) (sym folded) (compact_stands parts ever state stands))
 
-abbrev pub IsStanding : Standing → Type 0
+abbrev pub IsStanding : Situation → Type 0
 IsStanding at = Stands at.parts at.ever at.state
 
-pub step_stands : (was now : Standing) → Step was now → IsStanding was → IsStanding now
+pub step_stands : (was now : Situation) → Step was now → IsStanding was → IsStanding now
 step_stands was now (Commit parts new ever state body commits) stands = commit_stands parts new ever state body stands commits
 step_stands was now (Grow parts ever more state grown) stands = grow_stands parts ever more state stands grown
 
-pub steps_stand : (was now : Standing) → Steps was now → IsStanding was → IsStanding now
+pub steps_stand : (was now : Situation) → Steps was now → IsStanding was → IsStanding now
 steps_stand was now (Done at) stands = stands
 steps_stand was now (More first next last step steps) stands = steps_stand next last steps (step_stands first next step stands)
 

@@ -17,7 +17,7 @@ use Rattle.state_model.specs.Saved.{compacted, folded_for, read_back, saved}
 use Rattle.state_model.proofs.StateLemmas.{saved-read_back}
 use Rattle.state_steps.specs.Shapes.{AllHaveShape, AllWithin, IsKeptWell, written_on}
 use Rattle.state_steps.specs.Stands.{Stands}
-use Rattle.state_steps.specs.Steps.{Commits, Defines, Refreshes, Standing, Step, Commit, Grow, Steps, Done, More, Takes}
+use Rattle.state_steps.specs.Steps.{Commits, Defines, Refreshes, Situation, Step, Commit, Grow, Steps, Done, More, Takes}
 use Rattle.state_steps.proofs.BaseLemmas.{is_base}
 use Rattle.state_steps.proofs.CommitShapes.{BatchFits, commit_keeps, folded_definitions, renewal_shape, still_typed, take_shape}
 use Rattle.state_keeps.specs.Stored.{IsStored}
@@ -107,14 +107,14 @@ module _ (parts : List Part) (ever : List LandingFile) (state : State) (stands :
 
 -- ---- steps
 
-abbrev pub Both : Standing → Type 0
+abbrev pub Both : Situation → Type 0
 Both at = Stands at.parts at.ever at.state × AllHaveShape at.parts at.state
 
-step_keeps : (was now : Standing) → Step was now → Both was → Both now
+step_keeps : (was now : Situation) → Step was now → Both was → Both now
 step_keeps was now (Commit parts new ever state body commits) both =
     (step_stands was now (Commit parts new ever state body commits) both.0, shape_after parts ever state both.0 both.1 new body commits)
 step_keeps was now (Grow parts ever more state grown) both = (step_stands was now (Grow parts ever more state grown) both.0, both.1)
 
-pub steps_keep : (was now : Standing) → Steps was now → Both was → Both now
+pub steps_keep : (was now : Situation) → Steps was now → Both was → Both now
 steps_keep was now (Done at) both = both
 steps_keep was now (More first next last step steps) both = steps_keep next last steps (step_keeps first next step both)

@@ -183,19 +183,19 @@ Commits parts ever state (payload.Reset names) new = (new ≡ parts) × Resets p
 Commits parts ever state (payload.Base base) new = (new ≡ parts) × (base ≡ saved (compacted state))
 
 -- a store with the parts of its datasets, beside all bytes that the landing files have ever held
-pub record Standing : Type 0 where
+pub record Situation : Type 0 where
   pub parts : List Part
   pub ever : List LandingFile
   pub state : State
 
 -- one step: a commit, or files that grow, appear or go
-pub data Step : Standing → Standing → Type 0 where
+pub data Step : Situation → Situation → Type 0 where
   Commit : (parts new : List Part) (ever : List LandingFile) (state : State) (body : Payload) → Commits parts ever state body new
       → Step (record { parts = parts; ever = ever; state = state }) (record { parts = new; ever = ever; state = after_payload state body })
   Grow : (parts : List Part) (ever now : List LandingFile) (state : State) → HaveGrown ever now
       → Step (record { parts = parts; ever = ever; state = state }) (record { parts = parts; ever = now; state = state })
 
 -- steps one after the other
-pub data Steps : Standing → Standing → Type 0 where
-  Done : (at : Standing) → Steps at at
-  More : (first next last : Standing) → Step first next → Steps next last → Steps first last
+pub data Steps : Situation → Situation → Type 0 where
+  Done : (at : Situation) → Steps at at
+  More : (first next last : Situation) → Step first next → Steps next last → Steps first last

@@ -30,7 +30,7 @@ ghost use Rattle.state_steps.specs.Parts.{IsOf, definition_of};
 ghost use Rattle.state_steps.specs.Runs.{AreAllOf, AreInLevels, RunsAll};
 ghost use Rattle.state_steps.specs.Shapes.{AllHaveShape, AllWithin, written_on};
 ghost use Rattle.state_steps.specs.Stands.{Stands};
-ghost use Rattle.state_steps.specs.Steps.{AreBetween, Commits, Defines, IsFound, Refreshes, Standing, Step, Steps, Takes};
+ghost use Rattle.state_steps.specs.Steps.{AreBetween, Commits, Defines, IsFound, Refreshes, Situation, Step, Steps, Takes};
 
 /// A law: a store without datasets stands.
 pub fn nothing_stands()
@@ -82,7 +82,7 @@ pub fn steps_keep_the_shape()
         → AllHaveShape parts state
         → Commits parts ever state body new
         → AllHaveShape new (after_payload state body) }
-    ensures many { (was now : Standing)
+    ensures many { (was now : Situation)
         → Steps was now
         → Stands was.parts was.ever was.state
         → AllHaveShape was.parts was.state
@@ -109,8 +109,8 @@ pub fn growth_keeps_a_store_standing()
 
 /// A law: from a store that stands each list of steps, in any order, leads to a store that stands.
 pub fn steps_keep_a_store_standing()
-    ensures one { (was now : Standing) → Step was now → Stands was.parts was.ever was.state → Stands now.parts now.ever now.state }
-    ensures many { (was now : Standing) → Steps was now → Stands was.parts was.ever was.state → Stands now.parts now.ever now.state }
+    ensures one { (was now : Situation) → Step was now → Stands was.parts was.ever was.state → Stands now.parts now.ever now.state }
+    ensures many { (was now : Situation) → Steps was now → Stands was.parts was.ever was.state → Stands now.parts now.ever now.state }
 {}
 
 /// A law: the rows that a reading of a folder finds are those between the places where it began and

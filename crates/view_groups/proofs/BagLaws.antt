@@ -10,11 +10,11 @@ use Rattle.view_laws.proofs.ViewLemmas.{bag-length, known_bag, total_bag}
 use Rattle.view_groups.specs.declared.cell.Cell.{Cell}
 use Rattle.view_groups.specs.declared.cell.Cell.TheVariants as cell
 use Rattle.view_groups.specs.declared.group.Group.{Group}
-use Rattle.view_groups.specs.Counted.{above_zero, Counts}
+use Rattle.view_groups.specs.Counted.{above_zero, CountsValues}
 use Rattle.view_groups.specs.Cells.{KeepsCell}
 use Rattle.view_groups.specs.Groups.{KeepsGroup}
 
-counts-bag : (entries : List (Value × ℕ)) (xs ys : List Value) → IsOneBag xs ys → Counts entries xs → Counts entries ys
+counts-bag : (entries : List (Value × ℕ)) (xs ys : List Value) → IsOneBag xs ys → CountsValues entries xs → CountsValues entries ys
 counts-bag entries xs ys bag counts = record { at = λ v. counts.at v ∙ ap above_zero (bag.sums _) }
 
 cell-bag : (it : Item) (kept : Cell) (xs ys : List Value) → IsOneBag xs ys → KeepsCell it kept xs → KeepsCell it kept ys

@@ -8,7 +8,7 @@ use Rattle.plan_core.specs.declared.query.Item.{Item}
 use Rattle.plan_core.specs.declared.query.Item.TheVariants as item
 use Rattle.plan_core.specs.declared.stop.Stop.TheVariants.{SumOverflow}
 use Rattle.flow_model.specs.Views.{total, item_value, sum_stop}
-use Rattle.view_groups.specs.Counted.{Counts}
+use Rattle.view_groups.specs.Counted.{CountsValues}
 use Rattle.view_groups.specs.declared.cell.Cell.{Cell}
 use Rattle.view_groups.specs.declared.cell.Cell.TheVariants as cell
 use Rattle.view_groups.specs.declared.cell.GroupEnd.{GroupEnd}
@@ -21,8 +21,8 @@ KeepsCell (item.Plain e) cell.Nothing values = ⊤
 KeepsCell item.CountAll cell.Rows values = ⊤
 KeepsCell (item.Count e) (cell.Known known) values = known ≡ length values
 KeepsCell (item.Sum e) (cell.Total sum) values = (sum.known ≡ length values) × (sum.total ≡ total values)
-KeepsCell (item.Min e) (cell.Least bag) values = Counts bag.times.entries values
-KeepsCell (item.Max e) (cell.Greatest bag) values = Counts bag.times.entries values
+KeepsCell (item.Min e) (cell.Least bag) values = CountsValues bag.times.entries values
+KeepsCell (item.Max e) (cell.Greatest bag) values = CountsValues bag.times.entries values
 KeepsCell other kept values = ⊥
 
 -- the values that aren't NULL, with one more
