@@ -26,8 +26,8 @@ use Rattle.plan_core.specs.declared.stop.Place.TheVariants.{Number}
 use Rattle.plan_core.specs.declared.stop.Stop.TheVariants as stop
 use Rattle.plan_core.specs.Sound.{all_there, kind_over, kinds_over}
 use Rattle.flow_model.specs.Admission.{admit, counts, is_pass, objection_of}
-use Rattle.flow_model.specs.Append.{Keeps, PassedOver, append_out, append_seen, append_stop, by_outputs, by_verdict, by_where, cause_of, judged, kept_of, projected, seen_of, takes}
-use Rattle.flow_model.specs.Causes.{stop_at}
+use Rattle.flow_model.specs.Append.{Keeps, PassedOver, Stops, append_out, append_seen, append_stop, by_outputs, by_verdict, by_where, cause_of, judged, kept_of, projected, seen_of, takes}
+use Rattle.flow_model.specs.Causes.{Fails, stop_at}
 use Rattle.flow_model.specs.Views.{Share, Viewed, ask, fault_stop, first_of, judged_view, read_all, share, shared, unless, viewed}
 use Rattle.standing_worked.specs.Worked.{a_is, b_is, from_bronze, from_files, from_silver, must_be_b, row, tally}
 
@@ -77,6 +77,9 @@ silver_passes_over b = ap (by_where from_bronze must (row false b)) (takes_is fa
 silver_keeps : judged from_bronze must (row true true) ≡ Keeps (row true true)
 silver_keeps = ap (by_where from_bronze must (row true true)) (takes_is true true) ∙ ap (by_outputs must) (projected_is (row true true)) ∙ ap (by_verdict (row true true)) (admit_by true true)
 
+silver_stops : judged from_bronze must (row true false) ≡ Stops (Fails (codes "b is true"))
+silver_stops = ap (by_where from_bronze must (row true false)) (takes_is true false) ∙ ap (by_outputs must) (projected_is (row true false)) ∙ ap (by_verdict (row true false)) (admit_by true false)
+
 -- ---- the rows of the flows
 
 pub two_out : append_out from_files [] (row false true ∷ row true true ∷ []) ≡ row false true ∷ row true true ∷ []
@@ -84,6 +87,12 @@ two_out = λ i. cons_option (kept_of (bronze_keeps false true i)) (cons_option (
 
 pub two_run : append_stop from_files [] (row false true ∷ row true true ∷ []) ≡ None
 two_run = λ i. option_or (option_map (stop_at (Number 1)) (cause_of (bronze_keeps false true i))) (option_or (option_map (stop_at (Number 2)) (cause_of (bronze_keeps true true i))) None)
+
+pub three_out : append_out from_files [] (row false true ∷ row true true ∷ row true false ∷ []) ≡ row false true ∷ row true true ∷ row true false ∷ []
+three_out = λ i. cons_option (kept_of (bronze_keeps false true i)) (cons_option (kept_of (bronze_keeps true true i)) (cons_option (kept_of (bronze_keeps true false i)) []))
+
+pub three_run : append_stop from_files [] (row false true ∷ row true true ∷ row true false ∷ []) ≡ None
+three_run = λ i. option_or (option_map (stop_at (Number 1)) (cause_of (bronze_keeps false true i))) (option_or (option_map (stop_at (Number 2)) (cause_of (bronze_keeps true true i))) (option_or (option_map (stop_at (Number 3)) (cause_of (bronze_keeps true false i))) None))
 
 pub silver_out : append_out from_bronze must (row false true ∷ row true true ∷ []) ≡ row true true ∷ []
 silver_out = λ i. cons_option (kept_of (silver_passes_over true i)) (cons_option (kept_of (silver_keeps i)) [])
@@ -96,6 +105,9 @@ silver_runs = λ i. option_or (option_map (stop_at (Number 1)) (cause_of (silver
 
 pub silver_counts : counts must (row true true ∷ []) ≡ tally 1 0 ∷ []
 silver_counts = λ i. tally (count_by (λ r. is_pass (val_at 1 r i)) (row true true ∷ [])) (count_by (λ r. not (is_pass (val_at 1 r i))) (row true true ∷ [])) ∷ []
+
+pub third_stops : append_stop from_bronze must (row true false ∷ []) ≡ Some (stop.Expect (Number 1) (codes "b is true"))
+third_stops = λ i. option_or (option_map (stop_at (Number 1)) (cause_of (silver_stops i))) None
 
 -- ---- the view
 

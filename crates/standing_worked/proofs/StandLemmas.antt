@@ -1,7 +1,9 @@
 -- The stores that were worked by hand stand.
-use Rattle.std.proofs.Common.{◌<◌, ◌≤◌, [], ◌∷◌, ◌++◌, true, not, ◌&&◌, IsTrue, All, AllPairs, refl, sym, ap, ◌∙◌, arith}
+use Rattle.std.proofs.Common.{◌≡◌, ◌<◌, ◌≤◌, ◌+◌, ℕ, List, [], ◌∷◌, ◌++◌, cond, true, false, not, ◌&&◌, IsTrue, All, AllPairs, refl, sym, ap, ◌∙◌, arith}
 use Rattle.std.proofs.lemmas.List.Elements.{All-cons, All-nil}
 use Rattle.std.proofs.lemmas.List.Kept.{AllPairs-cons}
+use Rattle.std.proofs.lemmas.List.Sums.{sum_by-cons}
+use Rattle.value_core.specs.Order.{Row, same_row}
 use Rattle.value_core.specs.declared.cursor.Cursor.TheVariants.{At}
 use Rattle.value_core.specs.Bags.{count_of}
 use Rattle.value_core.specs.NameFold.{same_name}
@@ -12,9 +14,9 @@ use Rattle.plan_core.specs.declared.plan.Dataset.{Dataset as Part}
 use Rattle.plan_core.specs.Sound.{IsSoundBody, IsSoundFlow, IsSoundPlan, is_boolean}
 use Rattle.state_steps.specs.Parts.{IsOf, definition_of}
 use Rattle.state_steps.specs.Stands.{DatasetStands, Stands}
-use Rattle.standing_worked.specs.Worked.{at_first, bronze, bronze_at_first, bronze_reset, files, flags, from_bronze, from_files, must_be_b, once_reset, plan, shown, shown_at_first, silver, silver_at_first, silver_reset, two_lines}
-use Rattle.standing_worked.proofs.LineLemmas.{two_landed}
-use Rattle.standing_worked.proofs.RowLemmas.{b_kind, both_kinds, one_row, reads_is, shown_is, silver_counts, silver_out, silver_runs, silver_seen, sort_is, two_kinds, two_out, two_run}
+use Rattle.standing_worked.specs.Worked.{at_first, bronze, bronze_at_first, bronze_later, bronze_reset, files, flags, from_bronze, from_files, left_behind, must_be_b, once_reset, plan, row, shown, shown_at_first, silver, silver_at_first, silver_reset, three_lines, two_lines}
+use Rattle.standing_worked.proofs.LineLemmas.{three_landed, two_landed}
+use Rattle.standing_worked.proofs.RowLemmas.{b_kind, both_kinds, one_row, reads_is, shown_is, silver_counts, silver_out, silver_runs, silver_seen, sort_is, three_out, three_run, two_kinds, two_out, two_run}
 
 -- ---- the plan is sound
 
@@ -71,6 +73,9 @@ below = omega arith
 
 two_read : 0 < 8
 two_read = omega arith
+
+three_read : 0 < 12
+three_read = omega arith
 
 -- ---- after a first update
 
@@ -137,3 +142,53 @@ shown_stays = record {
 
 pub reset_stands : Stands plan (files two_lines) once_reset
 reset_stands = record { sound = sound; each = (bronze_empty, (silver_empty, (shown_stays, tt))) }
+
+-- ---- after a third line
+
+-- how often a row is the first of others
+abbrev held : Row → Row → ℕ
+held a x = cond (same_row a x) 1 0
+
+count-cons : (a x : Row) (xs : List Row) → count_of a (x ∷ xs) ≡ held a x + count_of a xs
+count-cons a x xs = sum_by-cons (held a) x xs
+
+-- a bag is one, whichever of two rows comes first
+swapped : (a x y z : Row) → count_of a (x ∷ y ∷ z ∷ []) ≡ count_of a (x ∷ z ∷ y ∷ [])
+swapped a x y z =
+    omega (arith, count-cons a x (y ∷ z ∷ []), count-cons a y (z ∷ []), count-cons a z [], count-cons a x (z ∷ y ∷ []), count-cons a z (y ∷ []), count-cons a y [])
+
+bronze_third : DatasetStands (files three_lines) left_behind bronze bronze_later
+bronze_third = record {
+  is_of = is_of bronze;
+  fills = record {
+    reads = (((three_read, tt, tt), ((three_read, refl), tt)), tt);
+    runs = (ap (append_stop from_files []) three_landed ∙ three_run, tt);
+    content_is = λ a. swapped a (row false true) (row true false) (row true true) ∙ ap (λ rows. count_of a (rows ++ [])) (sym (ap (append_out from_files []) three_landed ∙ three_out));
+    counts_are = refl;
+  };
+}
+
+silver_behind : DatasetStands (files three_lines) left_behind silver silver_at_first
+silver_behind = record {
+  is_of = is_of silver;
+  fills = record {
+    reads = (((low, below), (refl, tt)), tt);
+    runs = (silver_runs, tt);
+    content_is = λ a. ap (λ rows. count_of a (rows ++ [])) (sym silver_out);
+    counts_are = sym (ap (λ rows. counts (must_be_b ∷ []) (rows ++ [])) silver_seen ∙ silver_counts);
+  };
+}
+
+shown_behind : DatasetStands (files three_lines) left_behind shown shown_at_first
+shown_behind = record {
+  is_of = is_of shown;
+  fills = record {
+    cursor = At 1;
+    one_flow = refl;
+    reads = (low, same);
+    shows = record { result = one_row; gives = shown_is; content_is = λ a. refl; counts_are = refl };
+  };
+}
+
+pub behind_stands : Stands plan (files three_lines) left_behind
+behind_stands = record { sound = sound; each = (bronze_third, (silver_behind, (shown_behind, tt))) }

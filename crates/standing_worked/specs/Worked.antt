@@ -84,6 +84,10 @@ files bytes = record { dir = codes "in"; file = codes "x"; bytes = bytes } ∷ [
 abbrev pub two_lines : List ℕ
 two_lines = codes "f,t" ++ 10 ∷ codes "t,t" ++ 10 ∷ []
 
+-- and a third one
+abbrev pub three_lines : List ℕ
+three_lines = codes "f,t" ++ 10 ∷ codes "t,t" ++ 10 ∷ codes "t,f" ++ 10 ∷ []
+
 -- the file is read up to a place
 abbrev pub read_to : ℕ → Cursor
 read_to place = Files (record { file = codes "x"; place = place } ∷ [])
@@ -126,3 +130,14 @@ silver_reset = record silver_at_first { table = versions_of 0 [] (change_of [] (
 
 abbrev pub once_reset : State
 once_reset = bronze_reset ∷ silver_reset ∷ shown_at_first ∷ []
+
+-- ---- a third line comes, which `bronze` takes and `silver` fails at
+
+abbrev pub third_payload : Payload
+third_payload = payload.Take (record { table = codes "bronze"; flow = codes "bronze"; cursor = read_to 12; change = change_of [] (row true false ∷ []); counts = []; events = [] })
+
+abbrev pub bronze_later : Dataset
+bronze_later = record bronze_at_first { table = versions_of 0 [] (change_of [] (row false true ∷ row true true ∷ []) ∷ change_of [] (row true false ∷ []) ∷ []); cursors = read_to 12 ∷ [] }
+
+abbrev pub left_behind : State
+left_behind = bronze_later ∷ silver_at_first ∷ shown_at_first ∷ []

@@ -4,4 +4,4 @@
 
 mod laws;
 
-pub use laws::a_store_stands_as_worked;
+pub use laws::{a_failing_flow_stays_behind, a_store_stands_as_worked};
