@@ -14,13 +14,13 @@ use Rattle.sql_tree.specs.declared.statement.SqlOption.{SqlOption}
 use Rattle.value_core.specs.declared.cursor.Format.{Format}
 use Rattle.value_core.specs.declared.schema.Column.{Column}
 use Rattle.file_options.specs.declared.files.FilesRead.{FilesRead}
-use Rattle.file_options.specs.Schemas.{IsScanned, too_long, scanned, HasLexemes, lexemes_by, columns_of, SchemaBy}
+use Rattle.file_options.specs.Schemas.{IsTokenized, too_long, scanned, HasLexemes, lexemes_by, columns_of, SchemaBy}
 use Rattle.file_options.specs.Rules.{By, Ends, ended_by}
 
 pub scan_of : (text : Text) (r : Answer) → (max_text < length text → r ≡ Err TextTooLong) →
-    (length text ≤ max_text → IsUtf8 text → r ≢ Err Memory → Scans Open 0 text [] r) → IsUtf8 text → r ≢ Err Memory → IsScanned text r
+    (length text ≤ max_text → IsUtf8 text → r ≢ Err Memory → Scans Open 0 text [] r) → IsUtf8 text → r ≢ Err Memory → IsTokenized text r
 scan_of text r long scans utf8 some =
-    ⊎_elim (λ past. subst (IsScanned text) (sym (long past)) (too_long past)) (λ short. scanned short (scans short utf8 some)) (cases_lt max_text (length text))
+    ⊎_elim (λ past. subst (IsTokenized text) (sym (long past)) (too_long past)) (λ short. scanned short (scans short utf8 some)) (cases_lt max_text (length text))
 
 pub not_memory : (e : SqlRefusal) → (e ≡ Memory → ⊥) → ◌≢◌ {A = Answer} (Err e) (Err Memory)
 not_memory e other same = let here : e ≡ Memory = cc in other here
@@ -30,7 +30,7 @@ not_memory e other same = let here : e ≡ Memory = cc in other here
 abbrev pub IsOneScan : Type 0
 IsOneScan = (text : Text) (r s : Answer) → Scans Open 0 text [] r → Scans Open 0 text [] s → r ≡ s
 
-scan_once : IsOneScan → (text : Text) {r s : Answer} → IsScanned text r → IsScanned text s → r ≡ s
+scan_once : IsOneScan → (text : Text) {r s : Answer} → IsTokenized text r → IsTokenized text s → r ≡ s
 scan_once one text (too_long past) (too_long later) = refl
 scan_once one text (too_long past) (scanned short scans) = absurd (omega arith)
 scan_once one text (scanned short scans) (too_long past) = absurd (omega arith)

@@ -22,9 +22,9 @@ use Rattle.file_options.specs.Options.{Word, set_to}
 -- ---- the tokens of a text
 
 -- a text of more than 1 MiB has none, and any other one, which is UTF-8 as each `Text` is, has those of its scan from the front
-pub data IsScanned (text : List ℕ) : Answer → Type 0 where
-  too_long : max_text < length text → IsScanned text (Err TextTooLong)
-  scanned : {answer : Answer} → length text ≤ max_text → Scans Open 0 text [] answer → IsScanned text answer
+pub data IsTokenized (text : List ℕ) : Answer → Type 0 where
+  too_long : max_text < length text → IsTokenized text (Err TextTooLong)
+  scanned : {answer : Answer} → length text ≤ max_text → Scans Open 0 text [] answer → IsTokenized text answer
 
 abbrev pub lexemes_by : List ℕ → Answer → Option (List Lexeme)
 lexemes_by text (Ok tokens) = Some (map (lexeme_of text) tokens)
@@ -33,7 +33,7 @@ lexemes_by text (Err refusal) = None
 -- the tokens of a text as the grammar reads them; nothing where something in it is no token
 pub record HasLexemes (text : List ℕ) (lexemes : Option (List Lexeme)) : Type 0 where
   pub scan : Answer
-  pub scanned : IsScanned text scan
+  pub scanned : IsTokenized text scan
   pub read : lexemes ≡ lexemes_by text scan
 
 -- ---- name type { "," name type }
