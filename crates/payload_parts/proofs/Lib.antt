@@ -1,0 +1,4 @@
+pub mod BagLemmas
+pub mod MomentLemmas
+pub mod RowLemmas
+pub mod WalkLemmas

@@ -1,0 +1,8 @@
+use Rattle.std.proofs.Common.{◌↔◌, drop}
+use Rattle.state_model.specs.Follows.{IsReached}
+use Rattle.state_model.specs.Saved.{read_back, side_by_side}
+use Rattle.payload_parts.proofs.base.is_reached.Given as goal
+
+-- the datasets that are left have the answer
+abbrev pub invariant-loop-definition : goal.invariant-loop-definition
+invariant-loop-definition l = IsReached (side_by_side (drop l.definition-index l.store.list) l.states) l.source l.version ↔ IsReached (read_back l.store) l.source l.version
