@@ -1,0 +1,4 @@
+pub mod Leads
+pub mod Ours
+pub mod PairEnd
+pub mod PairState
