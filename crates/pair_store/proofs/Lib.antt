@@ -1,0 +1,6 @@
+pub mod BodiesLemmas
+pub mod CommitLemmas
+pub mod CompactLemmas
+pub mod GoesOnLemmas
+pub mod ImageLemmas
+pub mod LoadLemmas

@@ -1,0 +1,9 @@
+pub mod Bodies
+pub mod Commit
+pub mod Compact
+pub mod GoesOn
+pub mod Load
+pub mod Next
+pub mod Prepare
+pub mod Refusals
+pub mod Store
