@@ -1,0 +1,4 @@
+mod Givens
+mod StreamSound
+mod ViewSound
+mod Chain
