@@ -1,0 +1,3 @@
+pub mod Places
+pub mod Clauses
+pub mod Feeds
