@@ -1,0 +1,4 @@
+pub mod Ends
+pub mod Metrics
+pub mod Rows
+pub mod Words
