@@ -1,0 +1,4 @@
+pub mod KeyLemmas
+pub mod PatchLemmas
+pub mod SideLemmas
+pub mod TouchLemmas
