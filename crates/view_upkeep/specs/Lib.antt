@@ -1,0 +1,4 @@
+pub mod Parts
+pub mod Settled
+pub mod Stands
+pub mod Tallies
