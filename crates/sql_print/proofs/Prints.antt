@@ -1,5 +1,5 @@
 -- The print of each expression, one level down.
-use Rattle.std.proofs.Common.{◌≡◌, ℕ, ℤ, Bool, true, false, cond, List, [], ◌∷◌, ◌++◌, map, Option, Some, None, sym, ap, ◌∙◌, refl, append-nil, pos, negsuc, rules}
+use Rattle.std.proofs.Common.{◌≡◌, ℕ, ℤ, Bool, true, false, List, [], ◌∷◌, ◌++◌, map, Option, Some, None, sym, ap, ◌∙◌, refl, append-nil, pos, negsuc, rules}
 use Rattle.std.specs.Prelude.{codes, if◌then◌else◌}
 use Rattle.sql_tree.specs.declared.expr.SqlArm.{SqlArm, out-SqlArm, fold_out-SqlArm}
 use Rattle.sql_tree.specs.declared.expr.SqlOp.{SqlOp}
@@ -9,7 +9,6 @@ use Rattle.sql_tree.specs.declared.expr.SqlExpr.TheVariants as tree
 use Rattle.sql_tree.specs.declared.expr.SqlExpr.TheVariants.{rolls-Number, rolls-Str, rolls-Bool, rolls-Null, rolls-Name, rolls-Neg, rolls-Not, rolls-Binary, rolls-IsNull, rolls-InList, rolls-Between, rolls-Cast, rolls-Coalesce, rolls-CountAll, rolls-Count, rolls-Sum, rolls-Min, rolls-Max, rolls-Case}
 use Rattle.sql_tree.specs.declared.expr.SqlExpr.TheOpen as layer
 use Rattle.sql_tree.specs.declared.lexeme.LexemeKind.TheVariants as k
-use Rattle.sql_tree.specs.declared.lexeme.Lexeme.{Lexeme}
 use Rattle.sql_tree.specs.Lexemes.{kind, same_kind}
 use lib.Signed.{le_z}
 use Rattle.sql_tree.specs.Print.{Print, token, word, string, name, literal, operator, type_word, in_parens, operand, not_if, separated, all_of, print_layer, print_arm, expr_print, arm_print}

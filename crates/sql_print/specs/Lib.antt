@@ -1,2 +1,3 @@
 pub mod Clauses
+pub mod Placed
 pub mod Writing

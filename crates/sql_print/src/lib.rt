@@ -5,7 +5,7 @@ mod expressions;
 mod statements;
 mod writer;
 
-pub use statements::print;
+pub use statements::{print, print_placed};
 
 #[cfg(test)]
 mod tests;

@@ -1,9 +1,10 @@
 //! The print of queries and statements.
 
-ghost use Rattle.std.specs.Prelude.{◌≡◌, [], ◌∷◌, ◌++◌, if◌then◌else◌, true, map, OnOk, IfOk, codes};
+ghost use Rattle.std.specs.Prelude.{◌≡◌, ◌<◌, [], ◌∷◌, ◌++◌, if◌then◌else◌, true, map, length, All, OnOk, IfOk, codes};
 ghost use Rattle.sql_tree.specs.Print as print;
 ghost use Rattle.sql_tree.specs.Spelling.{spelled};
 ghost use Rattle.sql_print.specs.Clauses.{cdc_front, ignore_null, apply_when, columns, stored, track, table_front, view_front, insert_into};
+ghost use Rattle.sql_print.specs.Placed.{statements_at};
 ghost use Rattle.sql_print.specs.Writing.{put, puts};
 
 use crate::expressions::{expr, exprs, truth, type_word};
@@ -502,5 +503,40 @@ pub fn print(alloc: Global, statements: &Statements) -> Result<Text, AllocError>
 {
     let mut out = Writer::new(alloc);
     all(&mut out, alloc, statements.as_slice())?;
+    Ok(out.into_text())
+}
+
+fn placed(
+    out: &mut Writer,
+    alloc: Global,
+    list: &[Statement],
+    places: &[usize],
+) -> Result<(), AllocError>
+    requires { All (λ at. at < length list.now) places.now }
+    ensures { OnOk result (out.new ≡ puts out.old (print.print (statements_at list.now places.now))) }
+{
+    let mut goes_on = false;
+    for place in places {
+        out.token_if(goes_on, LexemeKind::Semicolon)?;
+        statement(out, alloc, &list[*place])?;
+        goes_on = true;
+    }
+    Ok(())
+}
+
+/// The canonical print of the statements at these places of a list, in their order, each place below
+/// its length: the definition text of a dataset, whose statement and flows stand among those of
+/// others.
+#[tactic(auto, using(crate::proofs::PutLemmas::puts_spelled))]
+pub fn print_placed(
+    alloc: Global,
+    statements: &[Statement],
+    places: &[usize],
+) -> Result<Text, AllocError>
+    requires { All (λ at. at < length statements.now) places.now }
+    ensures { IfOk result (λ text. text ≡ spelled (print.print (statements_at statements.now places.now))) }
+{
+    let mut out = Writer::new(alloc);
+    placed(&mut out, alloc, statements, places)?;
     Ok(out.into_text())
 }

@@ -1,4 +1,4 @@
-use crate::print;
+use crate::{print, print_placed};
 use sql_tree::{
     OptionValue, Out, Outs, Select, SqlExpr, SqlExprs, SqlItems, SqlOp, SqlOption, SqlOptions,
     SqlOrigin, Statement, Statements,
@@ -70,5 +70,9 @@ fn statements_are_printed(rt: HostRuntime) -> Result<(), Fail> {
         text.as_str()
             == "CREATE OR REFRESH STREAMING TABLE t AS SELECT a FROM STREAM read_files ( 'in' , format => 'json' , schema => 'a BIGINT' ) ; CREATE OR REFRESH STREAMING TABLE t AS SELECT a FROM STREAM read_files ( 'in' , format => 'json' , schema => 'a BIGINT' ) WHERE ( a > -5 )"
     );
+    let last = print_placed(alloc, statements.as_slice(), &[1])?;
+    let copy = print_placed(alloc, statements.as_slice(), &[0, 1])?;
+    assert!(rt; last.as_str().ends_with("WHERE ( a > -5 )") && last.as_str().starts_with("CREATE"));
+    assert!(rt; copy.as_str() == text.as_str());
     Ok(())
 }

@@ -1,7 +1,5 @@
-use Rattle.std.proofs.Common.{◌≡◌, ◌∙◌, Result, Ok, Err, OnOk, List, Option, Some, None, [], ◌∷◌, ◌++◌, map, sym, ap, ap₂, refl, to_z, of_z, w64, to_z-of_z, rules, drop, true, ℕ, ◌+◌}
-use Rattle.std.specs.declared.alloc.AllocError.{AllocError}
+use Rattle.std.proofs.Common.{◌≡◌, ◌∙◌, List, Option, Some, None, [], ◌∷◌, ◌++◌, map, sym, ap, ap₂, to_z, of_z, w64, to_z-of_z, rules, drop, true, ◌+◌}
 use Rattle.std.specs.Prelude.{codes, if◌then◌else◌}
-use Rattle.sql_tree.specs.Lexemes.{kind, same_kind}
 use Rattle.sql_tree.specs.declared.expr.SqlExpr.TheVariants as tree
 use Rattle.sql_tree.specs.declared.expr.SqlExpr.{SqlExpr}
 use Rattle.sql_tree.specs.declared.expr.SqlArm.{SqlArm}

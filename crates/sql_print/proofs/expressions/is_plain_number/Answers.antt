@@ -1,9 +1,8 @@
-use Rattle.std.proofs.Common.{◌≡◌, ◌∙◌, sym, ap, rules, false, to_z, of_z, w64, to_z-of_z, pos}
+use Rattle.std.proofs.Common.{◌≡◌, ◌∙◌, sym, ap, rules, to_z, of_z, w64, to_z-of_z, pos}
 use lib.Signed.{le_z}
 use Rattle.sql_tree.specs.declared.lexeme.LexemeKind.TheVariants as k
 use Rattle.sql_tree.specs.Lexemes.{kind, same_kind}
-use Rattle.sql_tree.specs.Spelling.{is_bare_name}
-use Rattle.sql_tree.specs.Print.{Print, expr_print}
+use Rattle.sql_tree.specs.Print.{expr_print}
 use Rattle.sql_print.proofs.Prints.{plain-literal, plain-truth, plain-name, plain-cast, print-Number, print-Str, print-Bool, print-Null, print-Name, print-Neg, print-Not, print-Binary, print-IsNull, print-InList, print-Between, print-Cast, print-Coalesce, print-CountAll, print-Count, print-Sum, print-Min, print-Max, plain-case}
 use Rattle.sql_print.proofs.expressions.is_plain_number.Goals as goal
 

@@ -1,6 +1,6 @@
 use Rattle.std.proofs.Common.{◌≡◌, true, false, map, drop, [], ◌∷◌}
 use Rattle.sql_tree.specs.Print.{option_print, string}
-use Rattle.sql_print.specs.Writing.{put, puts}
+use Rattle.sql_print.specs.Writing.{puts}
 use Rattle.sql_print.proofs.PutLemmas.{commas}
 use Rattle.sql_print.proofs.statements.files.Given as goal
 

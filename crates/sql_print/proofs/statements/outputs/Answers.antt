@@ -1,7 +1,7 @@
-use Rattle.std.proofs.Common.{◌≡◌, ◌∙◌, ◌+◌, List, [], ◌∷◌, true, map, drop, sym, ap}
+use Rattle.std.proofs.Common.{◌≡◌, ◌∙◌, ◌+◌, [], ◌∷◌, true, map, drop, sym, ap}
 use Rattle.std.proofs.lemmas.List.{drop_more, drop_all}
 use Rattle.sql_tree.specs.Print.{out_print}
-use Rattle.sql_print.specs.Writing.{put, puts}
+use Rattle.sql_print.specs.Writing.{puts}
 use Rattle.sql_print.proofs.PutLemmas.{commas, commas_more, no_commas, separated_is}
 use Rattle.sql_print.proofs.statements.outputs.Goals as goal
 
