@@ -2,10 +2,9 @@
 use Rattle.std.proofs.Common.{◌≡◌, ◌<◌, ◌≤◌, ◌+◌, ◌-◌, ◌*◌, ◌^◌, ℕ, Bool, true, false, cond, ◌&&◌, if◌then◌else◌, List, [], ◌∷◌, ◌++◌, length, refl, sym, ap, ◌∙◌, subst, append_assoc, arith}
 use Rattle.std.specs.Ordering.{is_gt}
 use Rattle.std.proofs.lemmas.List.{append-nil}
-use Rattle.value_core.specs.declared.change.Change.{Change}
 use Rattle.value_core.specs.declared.event.Event.{Event}
 use Rattle.value_core.specs.Bags.{count_of, in_row_order, net_change, surplus}
-use Rattle.value_core.specs.EventOrder.{Standing, Fresh, Repeat, Tied, event_order, placed_by, same_event, same_moment, standing}
+use Rattle.value_core.specs.EventOrder.{Fresh, Repeat, Tied, event_order, placed_by, same_event, same_moment, standing}
 use Rattle.value_core.specs.Order.{Row, same_row}
 use Rattle.value_core.specs.OrderLaws.{same_row_laws}
 use Rattle.std.proofs.lemmas.List.Sums.{sum_by-append}
@@ -22,7 +21,7 @@ use Rattle.cdc_histories.proofs.TurnLemmas.{free}
 
 -- ---- no two events of one moment
 
-joined : (kept event : Event) (more : List Event) → same_moment kept event ≡ false → standing more event ≡ Fresh → standing (kept ∷ more) event ≡ Fresh
+pub joined : (kept event : Event) (more : List Event) → same_moment kept event ≡ false → standing more event ≡ Fresh → standing (kept ∷ more) event ≡ Fresh
 joined kept event more apart later = ap (λ b. if b then (if same_event kept event then Repeat else Tied kept) else standing more event) apart ∙ later
 
 placed_either : (y z event : Event) (zs more : List Event) (b : Bool) → same_moment y event ≡ false → standing (z ∷ zs) event ≡ Fresh → standing more event ≡ Fresh
@@ -30,12 +29,12 @@ placed_either : (y z event : Event) (zs more : List Event) (b : Bool) → same_m
 placed_either y z event zs more true apart later placed = joined z event more (free z event zs later).0 placed
 placed_either y z event zs more false apart later placed = joined y event (z ∷ zs) apart later
 
-fresh_placed : (y event : Event) (ys : List Event) → same_moment y event ≡ false → standing ys event ≡ Fresh → standing (placed_by event_order y ys) event ≡ Fresh
+pub fresh_placed : (y event : Event) (ys : List Event) → same_moment y event ≡ false → standing ys event ≡ Fresh → standing (placed_by event_order y ys) event ≡ Fresh
 fresh_placed y event [] apart later = joined y event [] apart refl
 fresh_placed y event (z ∷ zs) apart later =
     placed_either y z event zs (placed_by event_order y zs) (is_gt (event_order y z)) apart later (fresh_placed y event zs apart (free z event zs later).1)
 
-turned : (a b : Event) → same_moment a b ≡ false → same_moment b a ≡ false
+pub turned : (a b : Event) → same_moment a b ≡ false → same_moment b a ≡ false
 turned a b e = (λ i. same_row_laws.symm b.key a.key i && same_row_laws.symm b.sequence a.sequence i) ∙ e
 
 fresh_part : (event : Event) (more kept : List Event) → standing (more ++ kept) event ≡ Fresh → standing kept event ≡ Fresh
@@ -51,7 +50,7 @@ apart_by : (event y : Event) (ys more : List Event) (b : Bool) → standing (y �
 apart_by event y ys more true fresh apart mine later = (mine, later)
 apart_by event y ys more false fresh apart mine later = (fresh, apart)
 
-apart_placed : (event : Event) (kept : List Event) → standing kept event ≡ Fresh → AreApart kept → AreApart (placed_by event_order event kept)
+pub apart_placed : (event : Event) (kept : List Event) → standing kept event ≡ Fresh → AreApart kept → AreApart (placed_by event_order event kept)
 apart_placed event [] fresh apart = (refl, tt)
 apart_placed event (y ∷ ys) fresh apart =
     let rest = free y event ys fresh in
@@ -97,7 +96,7 @@ count_step key event more kept =
 
 -- ---- rows that go and come
 
-count-append : (a : Row) (xs ys : List Row) → count_of a (xs ++ ys) ≡ count_of a xs + count_of a ys
+pub count-append : (a : Row) (xs ys : List Row) → count_of a (xs ++ ys) ≡ count_of a xs + count_of a ys
 count-append a xs ys = sum_by-append (one a) xs ys
 
 abbrev IsBalanced : List Row → List Row → List Row → List Row → Type 0

@@ -1,3 +1,9 @@
 pub mod PartLemmas
 pub mod TurnLemmas
 pub mod ApplyLemmas
+pub mod CutLemmas
+pub mod FoldLemmas
+pub mod BuildLemmas
+pub mod SortLemmas
+pub mod LateLemmas
+pub mod ArrivalLemmas

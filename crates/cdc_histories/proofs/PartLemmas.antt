@@ -1,5 +1,5 @@
 -- The rows of SCD type 2 of events that stand in histories, key by key.
-use Rattle.std.proofs.Common.{◌≡◌, ◌≢◌, ◌<◌, ◌^◌, ℕ, suc, Bool, true, false, cond, ◌||◌, if◌then◌else◌, List, [], ◌∷◌, ◌++◌, length, Option, Some, None, refl, sym, ap, ◌∙◌, subst, append_assoc}
+use Rattle.std.proofs.Common.{◌≡◌, ℕ, Bool, true, false, cond, ◌||◌, if◌then◌else◌, List, [], ◌∷◌, ◌++◌, Option, Some, None, refl, sym, ap, ◌∙◌, append_assoc}
 use Rattle.std.specs.Prelude.{filter, filter_map, flat_map}
 use Rattle.std.specs.List.{AllByRecursion, cons_option, list_any}
 use Rattle.std.specs.List.Sorted.{IsStrictlySortedBy}
@@ -18,10 +18,10 @@ use Rattle.net_changes.proofs.NetLemmas.{net_same, net_within}
 use Rattle.event_history.specs.declared.history.Entry.{Entry}
 use Rattle.event_history.specs.Histories.{AllAbove, AreAscending, events_of}
 use Rattle.event_ledger.specs.Keyed.{all_events, AreByKey, AreOf, of_key}
-use Rattle.flow_model.specs.Current.{distinct, history, keys_of}
+use Rattle.flow_model.specs.Current.{distinct, history}
 use Rattle.flow_model.specs.History.{key_rows, scd2}
 use Rattle.cdc_scd2.specs.Keys.{AreKeyed}
-use Rattle.cdc_histories.specs.Keeping.{AreHistories, AreInParts, IsHistory, rows_by_key}
+use Rattle.cdc_histories.specs.Keeping.{AreHistories, AreInParts, rows_by_key}
 
 -- ---- the events of one key
 
@@ -117,13 +117,13 @@ tells_by ignore_null tracked f g (q ∷ qs) same tells = (same q.0 ∙ tells.0, 
 
 -- ---- the keys, each once
 
-abbrev key_of : Event → Option Row
+abbrev pub key_of : Event → Option Row
 key_of event = if is_truncate event then None else Some event.key
 
-abbrev keys_in : List Event → List Row
+abbrev pub keys_in : List Event → List Row
 keys_in events = filter_map key_of events
 
-key_there : (k : Row) (event : Event) (events : List Event) → is_truncate event ≡ false → event.key ≡ k → keys_in (event ∷ events) ≡ k ∷ keys_in events
+pub key_there : (k : Row) (event : Event) (events : List Event) → is_truncate event ≡ false → event.key ≡ k → keys_in (event ∷ events) ≡ k ∷ keys_in events
 key_there k event events e is = ap (λ test. cons_option (if test then None else Some event.key) (keys_in events)) e ∙ ap (λ z. z ∷ keys_in events) is
 
 none_more : (k q : Row) (es : List Entry) (events : List Event) → AreOf q es → AreKeyed (events_of es) → same_row k q ≡ false → list_any (same_row k) (keys_in events) ≡ false

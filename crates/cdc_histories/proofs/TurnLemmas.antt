@@ -1,5 +1,5 @@
 -- One event more in the history of its key.
-use Rattle.std.proofs.Common.{◌≡◌, ◌≢◌, ◌<◌, ◌≤◌, ◌+◌, ◌*◌, ◌^◌, ℕ, Bool, true, false, cond, ◌&&◌, if◌then◌else◌, List, [], ◌∷◌, ◌++◌, length, Option, Some, None, Result, Ok, Err, OnErr, refl, sym, ap, ◌∙◌, subst, arith}
+use Rattle.std.proofs.Common.{◌≡◌, ◌<◌, ◌≤◌, ◌+◌, ◌*◌, ◌^◌, ℕ, Bool, true, false, cond, ◌&&◌, if◌then◌else◌, List, [], ◌∷◌, ◌++◌, length, Some, Result, Ok, Err, OnErr, refl, sym, ap, ◌∙◌, subst, arith}
 use Rattle.std.specs.List.Sorted.{IsStrictlySortedBy}
 use Rattle.std.specs.Map.{keys_of as map_keys, lookup, set_value}
 use Rattle.std.specs.BTreeMap.{insert_entry, is_at}
@@ -8,14 +8,13 @@ use Rattle.std.specs.declared.cmp.Ordering.TheVariants.{Less, Equal, Greater}
 use Rattle.std.specs.Ordering.{is_gt, match_ordering}
 use Rattle.std.proofs.lemmas.Map.{keys-set_value}
 use Rattle.value_core.specs.declared.event.Event.{Event}
-use Rattle.value_core.specs.declared.change.Change.{Change}
 use Rattle.value_core.specs.Bags.{net_change}
-use Rattle.value_core.specs.EventOrder.{Standing, Fresh, Repeat, Tied, event_order, history_order, is_truncate, placed_by, same_event, same_moment, sorted_by, standing}
+use Rattle.value_core.specs.EventOrder.{Fresh, Repeat, Tied, event_order, history_order, is_truncate, placed_by, same_event, same_moment, sorted_by, standing}
 use Rattle.value_core.specs.Order.{Row, row_order, same_row}
 use Rattle.value_core.specs.OrderLaws.{same_row_laws}
 use Rattle.event_history.specs.declared.history.Entry.{Entry}
 use Rattle.event_history.specs.Histories.{AreAscending, events_of}
-use Rattle.event_ledger.specs.Keyed.{all_events, AreByKey, AreOf, of_key}
+use Rattle.event_ledger.specs.Keyed.{all_events, AreOf, of_key}
 use Rattle.event_ledger.specs.Spots.{entry_placed}
 use Rattle.event_ledger.proofs.Keys.{events_put, found, keyed_insert, keyed_set, looks_found, own_found, stands_found}
 use Rattle.flow_model.specs.Current.{history}

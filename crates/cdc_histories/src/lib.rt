@@ -2,6 +2,9 @@
 //! map, and what further events do to the rows of the table.
 #![tactic(auto)]
 
+mod building;
+mod cutting;
+mod folding;
 mod histories;
 mod put;
 mod rules;

@@ -1,4 +1,4 @@
-use Rattle.std.proofs.Common.{◌≡◌, ◌++◌, sym, ap, ◌∙◌, subst}
+use Rattle.std.proofs.Common.{◌++◌, ap, ◌∙◌, subst}
 use Rattle.value_core.specs.declared.change.Change.{Change}
 use Rattle.event_ledger.specs.Keyed.{all_events, AreApart}
 use Rattle.flow_model.specs.History.{scd2}
