@@ -8,3 +8,6 @@ mod tallies;
 mod view;
 
 pub use view::{Turn, View};
+
+#[cfg(test)]
+mod tests;
