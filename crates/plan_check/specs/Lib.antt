@@ -1,0 +1,4 @@
+pub mod Visits
+pub mod Walks
+pub mod Names
+pub mod Checks
