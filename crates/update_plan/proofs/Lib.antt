@@ -1,0 +1,4 @@
+pub mod AcceptLemmas
+pub mod CommitLemmas
+pub mod LookupLemmas
+pub mod PartLemmas
