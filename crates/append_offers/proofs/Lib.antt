@@ -1,0 +1,9 @@
+pub mod BlameLemmas
+pub mod CommitLemmas
+pub mod CountLemmas
+pub mod FitLemmas
+pub mod LookLemmas
+pub mod PlaceLemmas
+pub mod ReadLemmas
+pub mod SortedLemmas
+pub mod StandLemmas

@@ -1,0 +1,50 @@
+-- What lines of listed files come to that were read.
+use Rattle.std.proofs.Common.{◌≡◌, ℕ, ◌∷◌, List, [], map, inr, refl, ap, ◌∙◌, subst}
+use Rattle.std.specs.Prelude.{Result, Ok, Err, IfOk, None}
+use Rattle.std.specs.declared.alloc.AllocError.{AllocError}
+use Rattle.value_core.specs.declared.change.Tally.{Tally}
+use Rattle.value_core.specs.declared.cursor.Cursor.TheVariants.{Files}
+use Rattle.value_core.specs.declared.cursor.FilePlace.{FilePlace}
+use Rattle.value_core.specs.declared.shape.Shape.{Shape}
+use Rattle.value_core.specs.FilePlaces.{IsPlaces}
+use Rattle.landing_core.specs.declared.fresh.Fresh.{Fresh}
+use Rattle.landing_core.specs.declared.landing.LandingFile.{LandingFile}
+use Rattle.landing_core.specs.declared.landing.Listed.{Listed}
+use Rattle.landing_core.specs.declared.lines.FreshLine.{FreshLine}
+use Rattle.landing_core.specs.Fresh.{heads_of, new_lines, reach, shrunk}
+use Rattle.landing_core.specs.Places.{NoneFalls}
+use Rattle.landing_history.specs.Taken.{with_heads}
+use Rattle.plan_core.specs.declared.flow.AppendFlow.{AppendFlow}
+use Rattle.plan_core.specs.declared.flow.Origin.TheVariants as origin
+use Rattle.plan_core.specs.declared.plan.Dataset.{Dataset as Part}
+use Rattle.row_flow.specs.Rows.{line_row}
+use Rattle.state_steps.specs.Consumed.{row_of_line}
+use Rattle.append_offers.specs.declared.offer.Offer.{Offer}
+use Rattle.append_offers.specs.News.{AreRead, rows_read}
+use Rattle.append_offers.specs.Offers.{Comes, OfListed}
+
+-- a line gives one row, whether its head stands beside it or is found by the number of its file
+rows_alike : (shape : Shape) (heads : List (List ℕ)) (lines : List FreshLine) → map (line_row shape heads) lines ≡ map (row_of_line shape) (with_heads heads lines)
+rows_alike shape heads [] = refl
+rows_alike shape heads (line ∷ lines) = ap (λ rows. line_row shape heads line ∷ rows) (rows_alike shape heads lines)
+
+module _ (tells : Type 0) (files : List LandingFile) (shape : Shape) (dir : List ℕ) (listing : List Listed) (places : List FilePlace) (fresh : Fresh) where
+  pub are_read : (tells → fresh.heads ≡ heads_of shape.format shape.header dir files listing) → (tells → fresh.lines ≡ new_lines shape.format shape.header dir files places 0 listing)
+      → (tells → fresh.cursor ≡ reach dir files places listing) → IsPlaces fresh.cursor → NoneFalls places fresh.cursor
+      → AreRead tells shape dir files listing places (rows_read (origin.Files dir shape) fresh) fresh.cursor
+  are_read heads lines cursor form later = record {
+    rows_are = λ told. rows_alike shape fresh.heads fresh.lines ∙ (λ i. map (row_of_line shape) (with_heads (heads told i) (lines told i)));
+    reach_is = cursor;
+    form = form;
+    later = later;
+  }
+
+  pub lines_come : (was now : ℕ) (dataset : Part) (flow : AppendFlow) (kept : List Tally) (result : Result Offer AllocError)
+      → flow.origin ≡ origin.Files dir shape
+      → shrunk places listing ≡ None
+      → AreRead tells shape dir files listing places (rows_read (origin.Files dir shape) fresh) fresh.cursor
+      → IfOk result (Comes dataset flow kept (Files places) (rows_read flow.origin fresh) (Files fresh.cursor))
+      → IfOk result (OfListed tells was now files dataset flow kept shape dir listing places (shrunk places listing))
+  lines_come was now dataset flow kept (Ok offer) from none read comes =
+      rw none (inr (rows_read (origin.Files dir shape) fresh, fresh.cursor, read, subst (λ o. Comes dataset flow kept (Files places) (rows_read o fresh) (Files fresh.cursor) offer) from comes))
+  lines_come was now dataset flow kept (Err end) from none read comes = tt

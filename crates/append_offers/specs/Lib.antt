@@ -1,0 +1,4 @@
+pub mod Commits
+pub mod Looks
+pub mod News
+pub mod Offers
