@@ -1,0 +1,5 @@
+mod ArgumentLemmas
+mod NumberLemmas
+mod PartLemmas
+mod RefreshLemmas
+mod ValueLemmas
