@@ -59,6 +59,7 @@ fn is_row_of(columns: &[Column], row: &Row) -> bool
     values.is_empty()
 }
 
+/// Whether each of these rows has one value a column, each of the column's kind or NULL.
 pub fn all_fit(columns: &[Column], rows: &[Row]) -> bool
     ensures { result ≡ rules.all_fit columns.now rows.now }
 {
