@@ -1,0 +1,3 @@
+mod OnePath
+mod OneNaming
+mod OneAnswer

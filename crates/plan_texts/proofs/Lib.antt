@@ -1,0 +1,17 @@
+pub mod Lists
+pub mod Names
+pub mod Results
+pub mod Marks
+pub mod Walked
+pub mod Declared
+pub mod Planned
+pub mod Levelled
+pub mod Judging
+pub mod Resolving
+pub mod Sourced
+pub mod Unfilled
+pub mod Found
+pub mod Pairs
+pub mod Alike
+pub mod Readable
+pub mod OneText
