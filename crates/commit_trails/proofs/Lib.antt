@@ -1,0 +1,3 @@
+pub mod LoadTrailLemmas
+pub mod StintLemmas
+pub mod TrailLemmas

@@ -1,0 +1,2 @@
+pub mod Stints
+pub mod Trails
