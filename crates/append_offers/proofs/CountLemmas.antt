@@ -37,6 +37,19 @@ counts_within (x ∷ xs) (y ∷ ys) was more none long =
     let behind : counts_fit (counts ys was) (counts ys more) ≡ true = counts_within xs ys was more parts.1 (ap pred long) in
     rw (here, behind) refl
 
+-- so do counts of which there is one for each expectation
+pub kept_within : (xs : List Expectation) (kept more : List Tally) → length kept ≡ length xs → length more ≡ length xs → count_stop xs kept more ≡ None → counts_fit kept more ≡ true
+kept_within [] [] [] long other none = refl
+kept_within [] [] (next ∷ more) long other none = cc
+kept_within [] (old ∷ kept) more long other none = cc
+kept_within (x ∷ xs) [] more long other none = cc
+kept_within (x ∷ xs) (old ∷ kept) [] long other none = cc
+kept_within (x ∷ xs) (old ∷ kept) (next ∷ more) long other none =
+    let parts = none_of x.name (past_limit (both_tallies old next)) (count_stop xs kept more) none in
+    let here : tally_fits old next ≡ true = fits_by old next (nat_lt (both_tallies old next).passed (2 ^ 63)) (nat_lt (both_tallies old next).failed (2 ^ 63)) refl refl parts.0 in
+    let behind : counts_fit kept more ≡ true = kept_within xs kept more (ap pred long) (ap pred other) parts.1 in
+    rw (here, behind) refl
+
 -- rows have no stop where neither a row nor a count has one
 pub stops_none : (first later : Option Stop) → option_or first later ≡ None → (first ≡ None) × (later ≡ None)
 stops_none None later e = (refl, e)

@@ -43,11 +43,11 @@ module _ (part : Part) (flow : AppendFlow) (kept : List Tally) where
   version_fits source version is_kept (inl unfit) = unfit.0 is_kept
   version_fits source version is_kept (inr comes) = comes_fit _ _ _ comes.1
 
-  streamed_fits : (source : Option Dataset) (version : ℕ) → IsSomeAnd source (IsStreamed version) → OfSource part flow kept source (At version) Unfit → ⊥
+  pub streamed_fits : (source : Option Dataset) (version : ℕ) → IsSomeAnd source (IsStreamed version) → OfSource part flow kept source (At version) Unfit → ⊥
   streamed_fits None version streamed unfit = streamed
   streamed_fits (Some source) version streamed comes = version_fits source version streamed.0 comes
 
-  first_fits : (source : Option Dataset) (found : Dataset) → source ≡ Some found → OfSource part flow kept source Never Unfit → ⊥
+  pub first_fits : (source : Option Dataset) (found : Dataset) → source ≡ Some found → OfSource part flow kept source Never Unfit → ⊥
   first_fits None found e unfit = cc
   first_fits (Some source) found e comes = comes_fit _ _ _ comes
 
@@ -60,7 +60,7 @@ module _ (part : Part) (flow : AppendFlow) (kept : List Tally) where
     listed_fits shape dir listing places (Some short) halted = cc
     listed_fits shape dir listing places None comes = reads_fit shape dir listing places comes
 
-    folder_fits : (shape : Shape) (dir : List ℕ) (listing : FolderListing) (places : List FilePlace) → OfFolder tells was now files part flow kept shape dir listing places Unfit → ⊥
+    pub folder_fits : (shape : Shape) (dir : List ℕ) (listing : FolderListing) (places : List FilePlace) → OfFolder tells was now files part flow kept shape dir listing places Unfit → ⊥
     folder_fits shape dir folder.NoFolder places never = never
     folder_fits shape dir (folder.Failed before after) places halted = cc
     folder_fits shape dir (folder.Files listing) places comes = listed_fits shape dir listing places (shrunk places listing) comes

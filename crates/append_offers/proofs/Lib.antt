@@ -1,9 +1,13 @@
 pub mod BlameLemmas
 pub mod CommitLemmas
 pub mod CountLemmas
+pub mod CursorLemmas
 pub mod FitLemmas
+pub mod FollowLemmas
 pub mod LookLemmas
+pub mod NextLemmas
 pub mod PlaceLemmas
 pub mod ReadLemmas
+pub mod ReadyLemmas
 pub mod SortedLemmas
 pub mod StandLemmas

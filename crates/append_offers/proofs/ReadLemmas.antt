@@ -1,6 +1,6 @@
 -- What lines of listed files come to that were read.
-use Rattle.std.proofs.Common.{◌≡◌, ℕ, ◌∷◌, List, [], map, inr, refl, ap, ◌∙◌, subst}
-use Rattle.std.specs.Prelude.{Result, Ok, Err, IfOk, None}
+use Rattle.std.proofs.Common.{◌≡◌, ℕ, ◌∷◌, List, [], map, inr, true, refl, ap, ◌∙◌, subst}
+use Rattle.std.specs.Prelude.{Result, Ok, Err, IfOk, None, slice_index_or}
 use Rattle.std.specs.declared.alloc.AllocError.{AllocError}
 use Rattle.value_core.specs.declared.change.Tally.{Tally}
 use Rattle.value_core.specs.declared.cursor.Cursor.TheVariants.{Files}
@@ -14,10 +14,14 @@ use Rattle.landing_core.specs.declared.lines.FreshLine.{FreshLine}
 use Rattle.landing_core.specs.Fresh.{heads_of, new_lines, reach, shrunk}
 use Rattle.landing_core.specs.Places.{NoneFalls}
 use Rattle.landing_history.specs.Taken.{with_heads}
+use Rattle.line_rows.specs.Lines.{keeps_text}
+use Rattle.line_rows.proofs.FitLemmas.{row_fits_columns}
+use Rattle.flow_kinds.proofs.FitTools.{both_of}
 use Rattle.plan_core.specs.declared.flow.AppendFlow.{AppendFlow}
 use Rattle.plan_core.specs.declared.flow.Origin.TheVariants as origin
 use Rattle.plan_core.specs.declared.plan.Dataset.{Dataset as Part}
-use Rattle.row_flow.specs.Rows.{line_row}
+use Rattle.row_flow.specs.Rows.{head_given, line_row}
+use Rattle.state_model.specs.Follows.{all_fit, is_row_of}
 use Rattle.state_steps.specs.Consumed.{row_of_line}
 use Rattle.append_offers.specs.declared.offer.Offer.{Offer}
 use Rattle.append_offers.specs.News.{AreRead, rows_read}
@@ -28,6 +32,13 @@ rows_alike : (shape : Shape) (heads : List (List ℕ)) (lines : List FreshLine) 
 rows_alike shape heads [] = refl
 rows_alike shape heads (line ∷ lines) = ap (λ rows. line_row shape heads line ∷ rows) (rows_alike shape heads lines)
 
+-- each line gives a row that fits the columns
+lines_fit : (shape : Shape) → keeps_text shape ≡ true → (heads : List (List ℕ)) (lines : List FreshLine) → all_fit shape.columns (map (line_row shape heads) lines) ≡ true
+lines_fit shape keeps heads [] = refl
+lines_fit shape keeps heads (line ∷ lines) =
+    both_of (is_row_of shape.columns) (line_row shape heads line) (map (line_row shape heads) lines) (row_fits_columns shape (head_given shape (slice_index_or heads line.file [])) line.line keeps)
+    (lines_fit shape keeps heads lines)
+
 module _ (tells : Type 0) (files : List LandingFile) (shape : Shape) (dir : List ℕ) (listing : List Listed) (places : List FilePlace) (fresh : Fresh) where
   pub are_read : (tells → fresh.heads ≡ heads_of shape.format shape.header dir files listing) → (tells → fresh.lines ≡ new_lines shape.format shape.header dir files places 0 listing)
       → (tells → fresh.cursor ≡ reach dir files places listing) → IsPlaces fresh.cursor → NoneFalls places fresh.cursor
@@ -37,6 +48,7 @@ module _ (tells : Type 0) (files : List LandingFile) (shape : Shape) (dir : List
     reach_is = cursor;
     form = form;
     later = later;
+    fit = λ keeps. lines_fit shape keeps fresh.heads fresh.lines;
   }
 
   pub lines_come : (was now : ℕ) (dataset : Part) (flow : AppendFlow) (kept : List Tally) (result : Result Offer AllocError)

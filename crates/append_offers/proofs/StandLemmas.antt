@@ -61,12 +61,12 @@ stood_stream ever state part flows target flow old stood is_flow from =
 
 -- ---- what is there
 
-found_by : {A : Type 0} (P : A → Type 0) (x : A) (xs : List A) (here : Bool) (rest : Option A) → P x → ((y : A) → rest ≡ Some y → P y) → (y : A) → cond here (Some x) rest ≡ Some y → P y
+pub found_by : {A : Type 0} (P : A → Type 0) (x : A) (xs : List A) (here : Bool) (rest : Option A) → P x → ((y : A) → rest ≡ Some y → P y) → (y : A) → cond here (Some x) rest ≡ Some y → P y
 found_by P x xs true rest p behind y e = subst P (some_same x y e) p
 found_by P x xs false rest p behind y e = behind y e
 
 -- what is found in a list is as each of it is
-found_all : {A : Type 0} (P : A → Type 0) (test : A → Bool) (xs : List A) → All P xs → (y : A) → find test xs ≡ Some y → P y
+pub found_all : {A : Type 0} (P : A → Type 0) (test : A → Bool) (xs : List A) → All P xs → (y : A) → find test xs ≡ Some y → P y
 found_all P test [] all y e = cc
 found_all P test (x ∷ xs) all y e = found_by P x xs (test x) (find test xs) (All-head P x xs all) (found_all P test xs (All-tail P x xs all)) y e
 

@@ -1,5 +1,5 @@
 -- What a flow reads next.
-use Rattle.std.specs.Prelude.{◌≡◌, ⊤, ℕ, List, [], map, Option, Some, None}
+use Rattle.std.specs.Prelude.{◌≡◌, ⊤, ℕ, true, List, [], map, Option, Some, None}
 use Rattle.value_core.specs.declared.cursor.FilePlace.{FilePlace}
 use Rattle.value_core.specs.declared.shape.Shape.{Shape}
 use Rattle.value_core.specs.FilePlaces.{IsPlaces}
@@ -14,9 +14,11 @@ use Rattle.landing_core.specs.Fresh.{heads_of, new_lines, reach}
 use Rattle.landing_core.specs.Names.{AreAscending}
 use Rattle.landing_core.specs.Places.{NoneFalls}
 use Rattle.landing_history.specs.Taken.{with_heads}
+use Rattle.line_rows.specs.Lines.{keeps_text}
 use Rattle.plan_core.specs.declared.flow.Origin.{Origin}
 use Rattle.plan_core.specs.declared.flow.Origin.TheVariants as origin
 use Rattle.row_flow.specs.Rows.{line_row}
+use Rattle.state_model.specs.Follows.{all_fit}
 use Rattle.state_steps.specs.Consumed.{row_of_line}
 use Rattle.append_offers.specs.declared.offer.FolderListing.{FolderListing}
 use Rattle.append_offers.specs.declared.offer.FolderListing.TheVariants as folder
@@ -40,12 +42,14 @@ new_rows shape dir files listing places =
     map (row_of_line shape) (with_heads (heads_of shape.format shape.header dir files listing) (new_lines shape.format shape.header dir files places 0 listing))
 
 -- Rows that were read of listed files behind these places, and the places behind the rows: whatever the landing tells, these
--- are places again of which none fell; where it tells, the rows are all new ones up to the reach of the listing.
+-- are places again of which none fell, and the rows fit the columns, where a rescued column is a STRING; where it tells, the
+-- rows are all new ones up to the reach of the listing.
 pub record AreRead (tells : Type 0) (shape : Shape) (dir : List ℕ) (files : List LandingFile) (listing : List Listed) (places : List FilePlace) (rows : List Row) (behind : List FilePlace) : Type 0 where
   pub rows_are : tells → rows ≡ new_rows shape dir files listing places
   pub reach_is : tells → behind ≡ reach dir files places listing
   pub form : IsPlaces behind
   pub later : NoneFalls places behind
+  pub fit : keeps_text shape ≡ true → all_fit shape.columns rows ≡ true
 
 -- the rows of lines that were read, by the shape of an origin's files
 abbrev pub rows_read : Origin → Fresh → List Row

@@ -4,12 +4,14 @@ ghost use Rattle.landing_core.specs.Folders.{HoldsPresent};
 ghost use Rattle.plan_core.specs.declared.flow.AppendFlow.{AppendFlow as Appending};
 ghost use Rattle.plan_core.specs.declared.plan.Body.TheVariants as body;
 ghost use Rattle.plan_core.specs.declared.plan.Dataset.{Dataset as Part};
-ghost use Rattle.plan_core.specs.Sound.{dataset_named};
+ghost use Rattle.plan_core.specs.Sound.{IsSoundPlan, dataset_named};
 ghost use Rattle.state_model.specs.Dataset.{dataset_of};
 ghost use Rattle.pair_store.specs.Store.{store_state};
 ghost use Rattle.state_steps.specs.Stands.{Stands};
 ghost use Rattle.state_steps.specs.Steps.{flow_named};
-ghost use Rattle.append_offers.specs.Commits.{IsOfStanding};
+ghost use Rattle.store_fitness.specs.Fitness.{IsReady};
+ghost use Rattle.update_plan.specs.Commits.{PartsKeepText};
+ghost use Rattle.append_offers.specs.Commits.{IsOfStanding, MayBeTaken};
 ghost use Rattle.append_offers.specs.Looks.{flow_looks, origin_looks};
 ghost use Rattle.append_offers.specs.News.{IsListingFor};
 ghost use Rattle.append_offers.specs.Offers.{Blames, IsOffer, OfOrigin};
@@ -17,8 +19,10 @@ ghost use Rattle.append_offers.specs.Offers.{Blames, IsOffer, OfOrigin};
 use crate::files::files_offer;
 use crate::offer::{FolderListing, Offer};
 use crate::source::table_offer;
+use flow_kinds::append_rows_fit_the_table;
 use landing_core::Landing;
 use landing_history::{places_have_one_form, reach_keeps_ends};
+use pair_state::a_state_comes_of_payloads;
 use pair_store::Store;
 use par_rows::Gate;
 use plan_core::{AppendFlow, Dataset, Origin};
@@ -109,7 +113,7 @@ fn offer_of<L: Landing, H: Threads + Sync, G: Gate + Sync, K: Ledger>(
 /// read failed, with the landing's count of faults before and after this call's reads; the stop of the
 /// first row that has one; and `CountOverflow` of the first expectation whose kept count would pass
 /// 2^63 - 1. `Idle` comes exactly where the position stays, `Ready` where it moves and nothing stops
-/// the batch: also one of no row. `Unfit` comes of no store that stands for its plan.
+/// the batch: also one of no row. `Unfit` comes of no store that stands for its plan, or is ready for it.
 ///
 /// `listing` is what the landing listed of the flow's folder, by which it is read. `Err` comes for want
 /// of memory alone. Rows are evaluated by at most as many threads as there are workers; what comes out
@@ -139,6 +143,15 @@ pub fn append_offer<L: Landing, H: Threads + Sync, G: Gate + Sync, K: Ledger>(
         → dataset.now.body ≡ body.Append flows
         → flow_named flows flow.now.name ≡ Some flow.now
         → IfOk result (IsOfStanding parts (L.ever landing.old) (store_state store.now)) }
+    // Whatever the landing tells, the batch may be committed to a store that is ready for a sound plan with this dataset and flow.
+    ensures follows { (plan : List Part) (flows : List Appending)
+        → IsSoundPlan plan
+        → PartsKeepText plan
+        → IsReady plan (store_state store.now)
+        → dataset_named plan dataset.now.name ≡ Some dataset.now
+        → dataset.now.body ≡ body.Append flows
+        → flow_named flows flow.now.name ≡ Some flow.now
+        → IfOk result (MayBeTaken (store_state store.now) dataset.now) }
     ensures looks { steps.new ≤ steps.old + flow_looks (store_state store.now) dataset.now flow.now }
     ensures present { L.tells → L.present landing.new ≡ L.present landing.old }
     ensures ever { L.tells → L.ever landing.new ≡ L.ever landing.old }
@@ -147,6 +160,8 @@ pub fn append_offer<L: Landing, H: Threads + Sync, G: Gate + Sync, K: Ledger>(
     places_have_one_form();
     reach_keeps_ends();
     a_reading_finds_what_is_between();
+    append_rows_fit_the_table();
+    a_state_comes_of_payloads();
     offer_of(
         rt, alloc, store, landing, listing, dataset, flow, gate, workers, steps,
     )

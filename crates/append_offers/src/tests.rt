@@ -11,8 +11,10 @@ use disk_model::MemDisk;
 use landing_core::{Landing, ListEnd, MemLanding};
 use pair_store::Store;
 use par_rows::NoGate;
-use plan_core::{AppendFlow, Body, Dataset, Exprs, Origin, Stop};
-use row_expr::Expr;
+use plan_core::{
+    Action, AppendFlow, Body, Dataset, Expectation, Expectations, Exprs, Origin, Place, Stop,
+};
+use row_expr::{Arithmetic, Expr};
 use sqlite_items::Boxed;
 use std::alloc::{AllocError, Global};
 use std::marker::Brand;
@@ -20,7 +22,7 @@ use std::process::Abort;
 use std::sync::ledger::{Blank, Ledger};
 use std::test::Fail;
 use std::thread::Threads;
-use value_core::{Column, Format, Kind, ListOf, Name, Schema, Shape, Steps, Text};
+use value_core::{Column, Format, Kind, ListOf, Name, Schema, Shape, Steps, Text, Value};
 
 /// Fresh tables `t` and `u` of one BIGINT column `a`, with a flow each of their own names: that of `t`
 /// over the folder `in`, and that of `u` over `t`.
@@ -32,6 +34,21 @@ const DEFINE: [u8; 188] = [
     0, 0, 0, 0, 0, 0, 1, 0, 0, 0, 0, 0, 0, 0, 1, b'a', 3, 0, 0, 0, 0, 0, 0, 0, 0, 0, 0, 0, 0, 0, 0,
     0, 1, 0, 0, 0, 0, 0, 0, 0, 1, b'u', 1, 0, 0, 0, 0, 0, 0, 0, 1, b't', 0, 0, 0, 0, 0, 0, 0, 0, 0,
     0, 0, 0, 0, 0, 0, 0,
+];
+
+/// A fresh table `t` like the other one, with an expectation `e`.
+const DEFINE_COUNTED: [u8; 110] = [
+    1, 1, 1, 0, 0, 0, 0, 0, 0, 0, 1, 0, 0, 0, 0, 0, 0, 0, 1, b't', 0, 0, 0, 0, 0, 0, 0, 1, b'x', 0,
+    0, 0, 0, 0, 0, 0, 0, 1, 0, 0, 0, 0, 0, 0, 0, 1, b'a', 3, 0, 0, 0, 0, 0, 0, 0, 1, 0, 0, 0, 0, 0,
+    0, 0, 1, b'e', 0, 0, 0, 0, 0, 0, 0, 0, 1, 0, 0, 0, 0, 0, 0, 0, 1, b't', 0, 0, 0, 0, 0, 0, 0, 0,
+    2, b'i', b'n', 0, 0, 0, 0, 0, 0, 0, 0, 0, 0, 0, 0, 0, 0, 0, 0,
+];
+
+/// A batch of no row into `t`, with 2^63 - 1 rows that passed.
+const COUNT: [u8; 77] = [
+    1, 2, 0, 0, 0, 0, 0, 0, 0, 1, b't', 0, 0, 0, 0, 0, 0, 0, 1, b't', 0, 0, 0, 0, 0, 0, 0, 0, 0, 0,
+    0, 0, 0, 0, 0, 0, 0, 0, 0, 0, 0, 0, 0, 0, 0, 0, 0, 0, 0, 0, 0, 0, 1, 127, 255, 255, 255, 255,
+    255, 255, 255, 0, 0, 0, 0, 0, 0, 0, 0, 0, 0, 0, 0, 0, 0, 0, 0,
 ];
 
 fn only<T: Drop>(alloc: Global, item: T) -> Result<ListOf<T>, AllocError> {
@@ -87,29 +104,68 @@ fn flow_of(name: Name, origin: Boxed<Origin>, outputs: Exprs) -> AppendFlow {
     }
 }
 
-/// `SELECT a FROM STREAM ..`
-fn flow(alloc: Global, name: &str, origin: Boxed<Origin>) -> Result<Boxed<AppendFlow>, AllocError> {
+/// `a DIV a`
+fn shares(alloc: Global) -> Result<Exprs, AllocError> {
+    let left = Boxed::new(alloc, Expr::Column(0, Kind::Big))?;
+    let right = Boxed::new(alloc, Expr::Column(0, Kind::Big))?;
+    only(alloc, Expr::Arithmetic(Arithmetic::Div, left, right))
+}
+
+/// `CONSTRAINT e EXPECT (TRUE)`
+fn expectations(alloc: Global) -> Result<Expectations, AllocError> {
+    let name = Name::new(alloc, "e")?;
+    let test = Expr::Literal(Value::Bool(true));
+    let action = Action::Warn;
+    only(alloc, Expectation { name, test, action })
+}
+
+/// `SELECT .. FROM STREAM ..`
+fn flow_giving(
+    alloc: Global,
+    name: &str,
+    origin: Boxed<Origin>,
+    outputs: Exprs,
+) -> Result<Boxed<AppendFlow>, AllocError> {
     let name = Name::new(alloc, name)?;
-    let outputs = outputs(alloc)?;
     Boxed::new(alloc, flow_of(name, origin, outputs))
 }
 
-fn table_of(alloc: Global, name: Name, text: Text, columns: Schema) -> Dataset {
+/// `SELECT a FROM STREAM ..`
+fn flow(alloc: Global, name: &str, origin: Boxed<Origin>) -> Result<Boxed<AppendFlow>, AllocError> {
+    let outputs = outputs(alloc)?;
+    flow_giving(alloc, name, origin, outputs)
+}
+
+fn table_of(
+    alloc: Global,
+    name: Name,
+    text: Text,
+    columns: Schema,
+    expectations: Expectations,
+) -> Dataset {
     Dataset {
         name,
         text,
         body: Body::Append(ListOf::new(alloc)),
         columns,
-        expectations: ListOf::new(alloc),
+        expectations,
         level: 0,
     }
 }
 
-fn table(alloc: Global, name: &str) -> Result<Boxed<Dataset>, AllocError> {
+fn table_with(
+    alloc: Global,
+    name: &str,
+    expectations: Expectations,
+) -> Result<Boxed<Dataset>, AllocError> {
     let name = Name::new(alloc, name)?;
     let text = Text::new(alloc, "x")?;
     let columns = columns(alloc)?;
-    Boxed::new(alloc, table_of(alloc, name, text, columns))
+    Boxed::new(alloc, table_of(alloc, name, text, columns, expectations))
+}
+
+fn table(alloc: Global, name: &str) -> Result<Boxed<Dataset>, AllocError> {
+    table_with(alloc, name, ListOf::new(alloc))
 }
 
 /// What the folder of a flow lists; `None` for want of memory.
@@ -150,7 +206,7 @@ fn offered<L: Landing, H: Threads + Sync, K: Ledger>(
 }
 
 /// An offer by a number for its kind, and one beside it: how many rows were read, the size of a file that is too short,
-/// or the count of faults.
+/// the count of faults, the number of a row, or a count that is too high.
 fn shown(offer: &Option<Offer>) -> (u8, u64) {
     match offer {
         None => (0, 0),
@@ -159,7 +215,17 @@ fn shown(offer: &Option<Offer>) -> (u8, u64) {
         Some(Offer::Unfit) => (3, 0),
         Some(Offer::Halted(Stop::Shrunk { size, .. })) => (4, *size),
         Some(Offer::Halted(Stop::Landing { after, .. })) => (5, *after),
-        Some(Offer::Halted(_)) => (6, 0),
+        Some(
+            Offer::Halted(
+                Stop::ZeroDivisor {
+                    place: Place::Number(row),
+                },
+            ),
+        ) => (6, *row),
+        Some(Offer::Halted(Stop::CountOverflow { total, .. })) => {
+            (7, u64::try_from(*total).unwrap_or(0))
+        }
+        Some(Offer::Halted(_)) => (8, 0),
     }
 }
 
@@ -176,17 +242,18 @@ fn seen<L: Landing, H: Threads + Sync, K: Ledger>(
     shown(&offered(rt, alloc, store, landing, table, flow, steps))
 }
 
-/// The payload of the definitions, which follows an empty store.
-fn defined<L: Ledger>(
+/// The payload with this spelling, which follows what the store holds.
+fn spelled<L: Ledger>(
     rt: &impl Abort,
     alloc: Global,
     store: &Store,
+    bytes: &[u8],
     steps: &mut Steps<L>,
 ) -> Result<Payload, Fail>
     ensures form { IfOk result IsWritable }
     ensures fits { IfOk result (λ payload. Fits (store_state store.now) payload) }
 {
-    let payload = read(alloc, &DEFINE)?.ok_or("no payload")?;
+    let payload = read(alloc, bytes)?.ok_or("no payload")?;
     checked(rt, store, payload, steps)
 }
 
@@ -238,6 +305,26 @@ fn checked<L: Ledger>(
     Ok(payload)
 }
 
+/// A store with the tables.
+fn stored<L: Ledger>(rt: &impl Abort, alloc: Global, steps: &mut Steps<L>) -> Result<Store, Fail> {
+    let mut disk = MemDisk::new(alloc, &[], &[], 4096, 4096, Vec::new(alloc))?;
+    let mut store = Store::load(alloc, &mut disk, steps)?;
+    let define = spelled(rt, alloc, &store, &DEFINE, steps)?;
+    store.commit(&mut disk, define)?;
+    Ok(store)
+}
+
+/// A store with the table that has an expectation, on which 2^63 - 1 rows passed.
+fn counted<L: Ledger>(rt: &impl Abort, alloc: Global, steps: &mut Steps<L>) -> Result<Store, Fail> {
+    let mut disk = MemDisk::new(alloc, &[], &[], 4096, 4096, Vec::new(alloc))?;
+    let mut store = Store::load(alloc, &mut disk, steps)?;
+    let define = spelled(rt, alloc, &store, &DEFINE_COUNTED, steps)?;
+    store.commit(&mut disk, define)?;
+    let count = spelled(rt, alloc, &store, &COUNT, steps)?;
+    store.commit(&mut disk, count)?;
+    Ok(store)
+}
+
 /// A folder is read up to its end, then nothing is new, and then its file is too short.
 fn reads_files<H: Threads + Abort + Sync, L: Ledger>(
     rt: &H,
@@ -251,7 +338,7 @@ fn reads_files<H: Threads + Abort + Sync, L: Ledger>(
     let mut steps: Steps<L> = Steps::new(blank);
     let mut disk = MemDisk::new(alloc, &[], &[], 4096, 4096, Vec::new(alloc))?;
     let mut store = Store::load(alloc, &mut disk, &mut steps)?;
-    let define = defined(rt, alloc, &store, &mut steps)?;
+    let define = spelled(rt, alloc, &store, &DEFINE, &mut steps)?;
     store.commit(&mut disk, define)?;
     let t = table(alloc, "t")?;
     let flow = flow(alloc, "t", folder(alloc)?)?;
@@ -309,7 +396,7 @@ fn reads_a_table<H: Threads + Abort + Sync, L: Ledger>(
     let mut steps: Steps<L> = Steps::new(blank);
     let mut disk = MemDisk::new(alloc, &[], &[], 4096, 4096, Vec::new(alloc))?;
     let mut store = Store::load(alloc, &mut disk, &mut steps)?;
-    let define = defined(rt, alloc, &store, &mut steps)?;
+    let define = spelled(rt, alloc, &store, &DEFINE, &mut steps)?;
     store.commit(&mut disk, define)?;
     let u = table(alloc, "u")?;
     let flow = flow(alloc, "u", source(alloc)?)?;
@@ -353,10 +440,7 @@ fn fails<H: Threads + Abort + Sync, L: Ledger>(
     requires some { blank.parts ≡ 1 }
 {
     let mut steps: Steps<L> = Steps::new(blank);
-    let mut disk = MemDisk::new(alloc, &[], &[], 4096, 4096, Vec::new(alloc))?;
-    let mut store = Store::load(alloc, &mut disk, &mut steps)?;
-    let define = defined(rt, alloc, &store, &mut steps)?;
-    store.commit(&mut disk, define)?;
+    let store = stored(rt, alloc, &mut steps)?;
     let t = table(alloc, "t")?;
     let flow = flow(alloc, "t", folder(alloc)?)?;
     // The first call lists, and the third reads.
@@ -395,4 +479,83 @@ fn failing(alloc: Global) -> Result<Vec<u64>, AllocError> {
 #[test]
 fn a_landing_that_fails_halts_a_flow(rt: HostRuntime) -> Result<(), Fail> {
     fails::<_, Brand>(&rt, rt.alloc(), Blank::new(1))
+}
+
+/// A flow that the store doesn't have can't go on, and a row that divides by 0 halts one.
+fn halts<H: Threads + Abort + Sync, L: Ledger>(
+    rt: &H,
+    alloc: Global,
+    blank: Blank,
+) -> Result<(), Fail>
+    requires name { blank.name ≡ L.name }
+    requires parts { blank.parts ≡ L.parts }
+    requires some { blank.parts ≡ 1 }
+{
+    let mut steps: Steps<L> = Steps::new(blank);
+    let store = stored(rt, alloc, &mut steps)?;
+    let t = table(alloc, "t")?;
+    let mut landing = MemLanding::new(alloc, Vec::new(alloc));
+    landing.put("in", "f", b"{\"a\":7}\n{\"a\":0}\n")?;
+    let other = flow(alloc, "w", folder(alloc)?)?;
+    let now = seen(
+        rt,
+        alloc,
+        &store,
+        &mut landing,
+        t.get(),
+        other.get(),
+        &mut steps,
+    );
+    assert!(rt; now == (3, 0));
+    let flow = flow_giving(alloc, "t", folder(alloc)?, shares(alloc)?)?;
+    let now = seen(
+        rt,
+        alloc,
+        &store,
+        &mut landing,
+        t.get(),
+        flow.get(),
+        &mut steps,
+    );
+    assert!(rt; now == (6, 2));
+    Ok(())
+}
+
+#[test]
+fn a_row_halts_a_flow_and_a_lacking_flow_is_unfit(rt: HostRuntime) -> Result<(), Fail> {
+    halts::<_, Brand>(&rt, rt.alloc(), Blank::new(1))
+}
+
+/// One row more than 2^63 - 1 that passed.
+fn overflows<H: Threads + Abort + Sync, L: Ledger>(
+    rt: &H,
+    alloc: Global,
+    blank: Blank,
+) -> Result<(), Fail>
+    requires name { blank.name ≡ L.name }
+    requires parts { blank.parts ≡ L.parts }
+    requires some { blank.parts ≡ 1 }
+{
+    let mut steps: Steps<L> = Steps::new(blank);
+    let store = counted(rt, alloc, &mut steps)?;
+    let t = table_with(alloc, "t", expectations(alloc)?)?;
+    let flow = flow(alloc, "t", folder(alloc)?)?;
+    let mut landing = MemLanding::new(alloc, Vec::new(alloc));
+    landing.put("in", "f", b"{\"a\":7}\n")?;
+    let now = seen(
+        rt,
+        alloc,
+        &store,
+        &mut landing,
+        t.get(),
+        flow.get(),
+        &mut steps,
+    );
+    assert!(rt; now == (7, 9_223_372_036_854_775_808));
+    Ok(())
+}
+
+#[test]
+fn a_count_past_its_limit_halts_a_flow(rt: HostRuntime) -> Result<(), Fail> {
+    overflows::<_, Brand>(&rt, rt.alloc(), Blank::new(1))
 }
