@@ -10,6 +10,7 @@ mod words;
 pub use ends::flow_line;
 pub use metrics::{metrics_head, put_metrics};
 pub use rows::table_text;
+pub use words::{put, put_counted, put_named, put_word};
 
 #[cfg(test)]
 mod tests;

@@ -19,8 +19,9 @@ fn put_byte(out: &mut Vec<u8>, byte: u8) -> Result<(), AllocError>
     Ok(())
 }
 
-/// Puts a name or string behind what `out` has, with `\` before what would end or part a line.
-pub(crate) fn put_word(out: &mut Vec<u8>, word: &str) -> Result<(), AllocError>
+/// Puts a name or string behind what `out` has, with `\` before what would end or part a line. `Err` for want of memory
+/// alone; then `out` may have some of it.
+pub fn put_word(out: &mut Vec<u8>, word: &str) -> Result<(), AllocError>
     ensures { OnOk result (out.new.items ≡ out.old.items ++ print_word word.now) }
 {
     for byte in word.as_bytes() {
@@ -29,23 +30,25 @@ pub(crate) fn put_word(out: &mut Vec<u8>, word: &str) -> Result<(), AllocError>
     Ok(())
 }
 
-/// Puts a text as it is behind what `out` has.
-pub(crate) fn put(out: &mut Vec<u8>, text: &str) -> Result<(), AllocError>
+/// Puts a text as it is behind what `out` has. `Err` for want of memory alone.
+pub fn put(out: &mut Vec<u8>, text: &str) -> Result<(), AllocError>
     ensures { OnOk result (out.new.items ≡ out.old.items ++ text.now) }
 {
     out.extend_from_slice(text.as_bytes())
 }
 
-/// Puts a text, and then a name or string.
-pub(crate) fn put_named(out: &mut Vec<u8>, before: &str, word: &str) -> Result<(), AllocError>
+/// Puts a text as it is, and then a name or string, behind what `out` has. `Err` for want of memory alone; then `out`
+/// may have some of it.
+pub fn put_named(out: &mut Vec<u8>, before: &str, word: &str) -> Result<(), AllocError>
     ensures { OnOk result (out.new.items ≡ out.old.items ++ (before.now ++ print_word word.now)) }
 {
     put(out, before)?;
     put_word(out, word)
 }
 
-/// Puts a text, and then a number.
-pub(crate) fn put_counted(
+/// Puts a text as it is, and then a number in decimal digits, behind what `out` has. `Err` for want of memory alone;
+/// then `out` may have some of it.
+pub fn put_counted(
     alloc: Global,
     out: &mut Vec<u8>,
     before: &str,
