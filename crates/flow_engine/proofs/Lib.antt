@@ -1,0 +1,4 @@
+pub mod CommitLemmas
+pub mod EndLemmas
+pub mod PlaceLemmas
+pub mod RunLemmas
