@@ -27,11 +27,13 @@ use Rattle.flow_model.specs.Causes.{Cause, Faults, Fails, stop_at}
 use Rattle.flow_model.specs.Counts.{count_stop, past_limit, stop_by_total}
 use Rattle.commit_payloads.specs.declared.take.Take.{Take}
 use Rattle.state_model.specs.Dataset.{Dataset, State, cursor_of, dataset_of}
-use Rattle.append_offers.specs.declared.offer.FolderListing.{FolderListing}
-use Rattle.append_offers.specs.declared.offer.FolderListing.TheVariants as folder
-use Rattle.append_offers.specs.declared.offer.Offer.{Offer}
-use Rattle.append_offers.specs.declared.offer.Offer.TheVariants.{Idle, Unfit}
-use Rattle.append_offers.specs.Offers.{Blames, Comes, IsBlamed, IsOffer, OfCursor, OfFiles, OfFolder, OfListed, OfOrigin, OfReads, OfSource, OfVersion, batch_stop, made}
+use Rattle.flow_news.specs.declared.offer.FolderListing.{FolderListing}
+use Rattle.flow_news.specs.declared.offer.FolderListing.TheVariants as folder
+use Rattle.flow_news.specs.declared.offer.Offer.{Offer}
+use Rattle.flow_news.specs.declared.offer.Offer.TheVariants.{Idle, Unfit}
+use Rattle.append_offers.specs.Offers.{Comes, IsOffer, OfCursor, OfFiles, OfFolder, OfListed, OfOrigin, OfReads, OfSource, OfVersion, batch_stop}
+use Rattle.flow_news.specs.Made.{made}
+use Rattle.flow_news.specs.Blames.{Blames, IsBlamed}
 
 module _ (listing : FolderListing) (was now : ℕ) where
   -- ---- rows never blame the landing

@@ -36,16 +36,16 @@ use Rattle.state_model.specs.Follows.{counts_fit}
 use Rattle.state_steps.specs.Consumed.{StreamStands}
 use Rattle.state_steps.specs.Stands.{Stands, seen_of, takings}
 use Rattle.state_steps.specs.Steps.{AreBetween, BodyTakes, Commits, GoesOn, Takes, flow_named}
-use Rattle.append_offers.specs.declared.offer.FolderListing.{FolderListing}
-use Rattle.append_offers.specs.declared.offer.FolderListing.TheVariants as folder
-use Rattle.append_offers.specs.declared.offer.Offer.{Offer}
-use Rattle.append_offers.specs.declared.offer.Offer.TheVariants.{Halted, Idle, Ready, Unfit}
-use Rattle.append_offers.specs.Commits.{IsOfStanding}
-use Rattle.append_offers.specs.News.{AreRead, IsListingFor, new_rows}
+use Rattle.flow_news.specs.declared.offer.FolderListing.{FolderListing}
+use Rattle.flow_news.specs.declared.offer.FolderListing.TheVariants as folder
+use Rattle.flow_news.specs.declared.offer.Offer.{Offer}
+use Rattle.flow_news.specs.declared.offer.Offer.TheVariants.{Halted, Idle, Ready, Unfit}
+use Rattle.flow_news.specs.Commits.{IsOfStanding}
+use Rattle.flow_news.specs.News.{AreRead, IsListingFor, new_rows}
 use Rattle.append_offers.specs.Offers.{Comes, IsOffer, OfCursor, OfFiles, OfFolder, OfListed, OfOrigin, OfReads, OfSource, OfTable, OfVersion, batch_of, batch_stop}
-use Rattle.append_offers.proofs.CountLemmas.{counts_within, made_ready, stops_none}
+use Rattle.flow_news.proofs.CountLemmas.{counts_within, made_ready, stops_none}
 use Rattle.append_offers.proofs.FitLemmas.{offer_fits}
-use Rattle.append_offers.proofs.PlaceLemmas.{moves_on}
+use Rattle.flow_news.proofs.PlaceLemmas.{moves_on}
 use Rattle.append_offers.proofs.StandLemmas.{StoodTable, stood_stream, stood_table}
 
 -- the rows by which a flow goes on, of which a batch was made

@@ -18,7 +18,7 @@ use Rattle.state_steps.specs.Parts.{stored_body, stored_flow, stored_flows, stor
 use Rattle.state_steps.specs.Steps.{flow_named}
 use Rattle.state_steps.proofs.Lookups.{some_same}
 use Rattle.store_fitness.specs.Fitness.{FlowFits, PositionFits, position_of}
-use Rattle.append_offers.proofs.ReadyLemmas.{ReadyTable, found_each}
+use Rattle.flow_news.proofs.ReadyLemmas.{ReadyTable, found_each}
 
 -- a position of a flow over this origin: it comes of where the flow began, and is a version that is kept, or places
 pub record IsPosition (state : State) (from : StoredOrigin) (old : Cursor) : Type 0 where

@@ -23,11 +23,12 @@ use Rattle.state_model.specs.Dataset.{Dataset, State, cursor_in, cursor_of, data
 use Rattle.state_steps.specs.Consumed.{IsStreamed, StreamStands}
 use Rattle.state_steps.specs.Stands.{Stands}
 use Rattle.state_steps.specs.Steps.{flow_named}
-use Rattle.append_offers.specs.declared.offer.FolderListing.{FolderListing}
-use Rattle.append_offers.specs.declared.offer.FolderListing.TheVariants as folder
-use Rattle.append_offers.specs.declared.offer.Offer.TheVariants.{Unfit}
-use Rattle.append_offers.specs.News.{IsListingFor}
-use Rattle.append_offers.specs.Offers.{Comes, IsOffer, OfCursor, OfFiles, OfFolder, OfListed, OfOrigin, OfReads, OfSource, OfVersion, batch_stop, made}
+use Rattle.flow_news.specs.declared.offer.FolderListing.{FolderListing}
+use Rattle.flow_news.specs.declared.offer.FolderListing.TheVariants as folder
+use Rattle.flow_news.specs.declared.offer.Offer.TheVariants.{Unfit}
+use Rattle.flow_news.specs.News.{IsListingFor}
+use Rattle.append_offers.specs.Offers.{Comes, IsOffer, OfCursor, OfFiles, OfFolder, OfListed, OfOrigin, OfReads, OfSource, OfVersion, batch_stop}
+use Rattle.flow_news.specs.Made.{made}
 use Rattle.append_offers.proofs.StandLemmas.{StoodTable, cursor_too, source_there, stood_stream, stood_table, there_too}
 
 made_fits : (stop : Option Stop) (count : ℕ) (batch : Take) → Unfit ≡ made stop count batch → ⊥

@@ -36,16 +36,16 @@ use Rattle.state_steps.specs.Steps.{flow_named}
 use Rattle.state_steps.proofs.FlowShapes.{found_flow}
 use Rattle.store_fitness.specs.Fitness.{IsReady, IsSourceNow}
 use Rattle.update_plan.specs.Commits.{PartsKeepText}
-use Rattle.append_offers.specs.declared.offer.FolderListing.{FolderListing}
-use Rattle.append_offers.specs.declared.offer.Offer.{Offer}
-use Rattle.append_offers.specs.declared.offer.Offer.TheVariants.{Halted, Idle, Ready, Unfit}
-use Rattle.append_offers.specs.Commits.{MayBeTaken}
+use Rattle.flow_news.specs.declared.offer.FolderListing.{FolderListing}
+use Rattle.flow_news.specs.declared.offer.Offer.{Offer}
+use Rattle.flow_news.specs.declared.offer.Offer.TheVariants.{Halted, Idle, Ready, Unfit}
+use Rattle.flow_news.specs.Commits.{MayBeTaken}
 use Rattle.append_offers.specs.Offers.{IsOffer, OfCursor, OfFiles, OfOrigin, OfSource, batch_of, batch_stop}
-use Rattle.append_offers.proofs.CountLemmas.{kept_within, stops_none}
+use Rattle.flow_news.proofs.CountLemmas.{kept_within, stops_none}
 use Rattle.append_offers.proofs.CursorLemmas.{IsPosition, ReadyFlow, ready_flow}
 use Rattle.append_offers.proofs.FitLemmas.{first_fits, folder_fits, streamed_fits}
 use Rattle.append_offers.proofs.NextLemmas.{AreNext, Made, origin_made, source_named}
-use Rattle.append_offers.proofs.ReadyLemmas.{ReadyTable, found_each, ready_table, ready_there}
+use Rattle.flow_news.proofs.ReadyLemmas.{ReadyTable, found_each, ready_table, ready_there}
 use Rattle.append_offers.proofs.StandLemmas.{found_all}
 
 -- ---- a batch of rows that fit

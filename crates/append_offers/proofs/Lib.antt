@@ -1,13 +1,9 @@
 pub mod BlameLemmas
 pub mod CommitLemmas
-pub mod CountLemmas
 pub mod CursorLemmas
 pub mod FitLemmas
 pub mod FollowLemmas
 pub mod LookLemmas
+pub mod NewsLemmas
 pub mod NextLemmas
-pub mod PlaceLemmas
-pub mod ReadLemmas
-pub mod ReadyLemmas
-pub mod SortedLemmas
 pub mod StandLemmas

@@ -33,13 +33,13 @@ use Rattle.state_steps.specs.Shapes.{is_shaped}
 use Rattle.state_steps.proofs.Lookups.{some_same}
 use Rattle.state_steps.proofs.RowShapes.{content_fits, since_fits}
 use Rattle.store_fitness.specs.Fitness.{IsSourceNow}
-use Rattle.append_offers.specs.declared.offer.FolderListing.{FolderListing}
-use Rattle.append_offers.specs.declared.offer.FolderListing.TheVariants as folder
-use Rattle.append_offers.specs.declared.offer.Offer.TheVariants.{Ready}
+use Rattle.flow_news.specs.declared.offer.FolderListing.{FolderListing}
+use Rattle.flow_news.specs.declared.offer.FolderListing.TheVariants as folder
+use Rattle.flow_news.specs.declared.offer.Offer.TheVariants.{Ready}
 use Rattle.append_offers.specs.Offers.{Comes, OfFiles, OfFolder, OfListed, OfOrigin, OfReads, OfSource, OfTable, OfVersion, batch_of, batch_stop}
-use Rattle.append_offers.proofs.CountLemmas.{made_ready}
-use Rattle.append_offers.proofs.PlaceLemmas.{moves_on}
-use Rattle.append_offers.proofs.ReadyLemmas.{ReadyTable}
+use Rattle.flow_news.proofs.CountLemmas.{made_ready}
+use Rattle.flow_news.proofs.PlaceLemmas.{moves_on}
+use Rattle.flow_news.proofs.ReadyLemmas.{ReadyTable}
 
 -- rows of a source with these columns, and the position behind them
 pub record AreNext (state : State) (from : Origin) (columns : List Column) (old behind : Cursor) (rows : List Row) : Type 0 where

@@ -1,4 +1,2 @@
-pub mod Commits
 pub mod Looks
-pub mod News
 pub mod Offers

@@ -1,5 +1,5 @@
 -- What an append flow of a streaming table comes to before the disk is called.
-use Rattle.std.specs.Prelude.{◌≡◌, ◌≢◌, ◌⊎◌, ⊤, ℕ, List, [], length, Option, Some, None}
+use Rattle.std.specs.Prelude.{◌≡◌, ◌≢◌, ◌⊎◌, ℕ, List, [], length, Option, Some, None}
 use Rattle.std.specs.Option.{option_or}
 use Rattle.disk_model.specs.Faults.{Rose}
 use Rattle.value_core.specs.declared.change.Tally.{Tally}
@@ -29,11 +29,14 @@ use Rattle.flow_model.specs.Append.{append_out, append_seen, append_stop}
 use Rattle.flow_model.specs.Counts.{count_stop}
 use Rattle.commit_payloads.specs.declared.take.Take.{Take}
 use Rattle.state_model.specs.Dataset.{Dataset, State, cursor_of, dataset_of}
-use Rattle.append_offers.specs.declared.offer.FolderListing.{FolderListing}
-use Rattle.append_offers.specs.declared.offer.FolderListing.TheVariants as folder
-use Rattle.append_offers.specs.declared.offer.Offer.{Offer}
-use Rattle.append_offers.specs.declared.offer.Offer.TheVariants.{Halted, Idle, Ready, Unfit}
-use Rattle.append_offers.specs.News.{AreRead}
+use Rattle.flow_news.specs.declared.offer.FolderListing.{FolderListing}
+use Rattle.flow_news.specs.declared.offer.FolderListing.TheVariants as folder
+use Rattle.flow_news.specs.declared.offer.Offer.{Offer}
+use Rattle.flow_news.specs.declared.offer.Offer.TheVariants.{Halted, Idle, Unfit}
+use Rattle.flow_news.specs.Finds as found
+use Rattle.flow_news.specs.Finds.{Found, Stays, Stops, Lost}
+use Rattle.flow_news.specs.Made.{made}
+use Rattle.flow_news.specs.News.{AreRead}
 
 -- ---- a batch of rows
 
@@ -50,11 +53,6 @@ batch_with dataset flow cursor added tallies =
 abbrev pub batch_of : Part → AppendFlow → Cursor → List Row → Take
 batch_of dataset flow cursor rows =
     batch_with dataset flow cursor (in_row_order (append_out flow dataset.expectations rows)) (counts dataset.expectations (append_seen flow dataset.expectations rows))
-
--- a batch of so many rows, unless something stops it
-abbrev pub made : Option Stop → ℕ → Take → Offer
-made (Some why) read batch = Halted why
-made None read batch = Ready read batch
 
 -- what rows come to, where this is the position behind them
 abbrev pub batch_offer : Part → AppendFlow → List Tally → List Row → Cursor → Offer
@@ -127,14 +125,11 @@ module _ (tells : Type 0) (was now : ℕ) (files : List LandingFile) (dataset : 
   IsOffer None offer = offer ≡ Unfit
   IsOffer (Some target) offer = OfCursor target.counts (cursor_of target flow.name) offer
 
--- ---- stops of the landing
+-- ---- a flow by its news
 
--- a stop of the landing is that of the listing, or of a read by which the count of faults rose
-abbrev pub IsBlamed : FolderListing → ℕ → ℕ → Stop → Type 0
-IsBlamed listing was now (Landing before after) = (listing ≡ folder.Failed before after) ⊎ ((before ≡ was) × (after ≡ now) × Rose was now)
-IsBlamed listing was now other = ⊤
-
--- an offer halts by the landing only so
-abbrev pub Blames : FolderListing → ℕ → ℕ → Offer → Type 0
-Blames listing was now (Halted why) = IsBlamed listing was now why
-Blames listing was now other = ⊤
+-- what a flow comes to by what it found
+abbrev pub offer_of : Part → AppendFlow → List Tally → Found → Offer
+offer_of dataset flow kept Stays = Idle
+offer_of dataset flow kept (found.Comes rows behind) = batch_offer dataset flow kept rows behind
+offer_of dataset flow kept (Stops why) = Halted why
+offer_of dataset flow kept Lost = Unfit

@@ -3,11 +3,11 @@ ghost use Rattle.std.specs.Prelude.{◌≡◌, ◌≤◌, IfOk};
 ghost use Rattle.flow_model.specs.Counts.{count_stop};
 ghost use Rattle.row_flow.specs.Rows.{rows_of};
 ghost use Rattle.append_offers.specs.Offers as spec;
-ghost use Rattle.append_offers.specs.Offers.{batch_with, made};
+ghost use Rattle.append_offers.specs.Offers.{batch_with};
+ghost use Rattle.flow_news.specs.Made.{made};
 
-use crate::counts::find_overflow;
-use crate::offer::Offer;
 use commit_payloads::Take;
+use flow_news::{Offer, find_overflow};
 use par_rows::Gate;
 use plan_core::{AppendFlow, Dataset, StopOr};
 use row_flow::{Batch, Input, append_batch};

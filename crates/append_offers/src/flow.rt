@@ -11,26 +11,55 @@ ghost use Rattle.state_steps.specs.Stands.{Stands};
 ghost use Rattle.state_steps.specs.Steps.{flow_named};
 ghost use Rattle.store_fitness.specs.Fitness.{IsReady};
 ghost use Rattle.update_plan.specs.Commits.{PartsKeepText};
-ghost use Rattle.append_offers.specs.Commits.{IsOfStanding, MayBeTaken};
-ghost use Rattle.append_offers.specs.Looks.{flow_looks, origin_looks};
-ghost use Rattle.append_offers.specs.News.{IsListingFor};
-ghost use Rattle.append_offers.specs.Offers.{Blames, IsOffer, OfOrigin};
+ghost use Rattle.flow_news.specs.Commits.{IsOfStanding, MayBeTaken};
+ghost use Rattle.append_offers.specs.Looks.{flow_looks};
+ghost use Rattle.flow_news.specs.News.{IsListingFor};
+ghost use Rattle.append_offers.specs.Offers.{IsOffer, OfOrigin, offer_of};
+ghost use Rattle.flow_news.specs.Blames.{Blames};
+ghost use Rattle.flow_news.specs.Finds.{found_of};
+ghost use Rattle.flow_news.specs.Looks.{origin_looks};
 
-use crate::files::files_offer;
-use crate::offer::{FolderListing, Offer};
-use crate::source::table_offer;
+use crate::batch::batch_offer;
 use flow_kinds::append_rows_fit_the_table;
+use flow_news::{FolderListing, News, Offer, find_news};
 use landing_core::Landing;
 use landing_history::{places_have_one_form, reach_keeps_ends};
 use pair_state::a_state_comes_of_payloads;
 use pair_store::Store;
 use par_rows::Gate;
-use plan_core::{AppendFlow, Dataset, Origin};
+use plan_core::{AppendFlow, Dataset};
 use state_steps::a_reading_finds_what_is_between;
 use std::alloc::{AllocError, Global};
 use std::sync::ledger::Ledger;
 use std::thread::Threads;
 use value_core::{Cursor, Steps, Tallies};
+
+/// What a flow comes to by its news.
+fn news_offer<H: Threads + Sync, G: Gate + Sync>(
+    rt: &H,
+    alloc: Global,
+    gate: &G,
+    workers: u32,
+    dataset: &Dataset,
+    flow: &AppendFlow,
+    kept: &Tallies,
+    news: News,
+) -> Result<Offer, AllocError>
+    requires { (1 ≤ workers) × (workers ≤ 64) }
+    ensures { IfOk result (λ offer. offer ≡ offer_of dataset.now flow.now kept.now (found_of flow.now.origin news)) }
+{
+    match news {
+        News::Idle => Ok(Offer::Idle),
+        News::Halted(why) => Ok(Offer::Halted(why)),
+        News::Unfit => Ok(Offer::Unfit),
+        News::Come { rows, behind } => {
+            let input = rows.input();
+            batch_offer(
+                rt, alloc, gate, workers, dataset, flow, kept, behind, &input,
+            )
+        }
+    }
+}
 
 /// What a flow comes to that stands at this position, and whose dataset has these counts.
 fn origin_offer<L: Landing, H: Threads + Sync, G: Gate + Sync, K: Ledger>(
@@ -55,17 +84,8 @@ fn origin_offer<L: Landing, H: Threads + Sync, G: Gate + Sync, K: Ledger>(
     ensures ever { L.tells → L.ever landing.new ≡ L.ever landing.old }
     ensures later { L.faults landing.old ≤ L.faults landing.new }
 {
-    match &flow.origin {
-        Origin::Files { dir, shape } => files_offer(
-            rt, alloc, gate, workers, landing, dir, shape, listing, dataset, flow, kept, cursor,
-        ),
-        Origin::Table { name } => match store.table(name) {
-            None => Ok(Offer::Unfit),
-            Some(table) => table_offer(
-                rt, alloc, gate, workers, dataset, flow, kept, table, cursor, steps,
-            ),
-        },
-    }
+    let news = find_news(alloc, store, landing, listing, &flow.origin, cursor, steps)?;
+    news_offer(rt, alloc, gate, workers, dataset, flow, kept, news)
 }
 
 /// What a flow comes to, by where the store has it.

@@ -4,7 +4,7 @@ ghost use Rattle.value_core.specs.Bags.{in_row_order};
 ghost use Rattle.net_changes.specs.Chains.{all_added};
 ghost use Rattle.table_versions.specs.Versions.{Versions, changes_since, content_now};
 ghost use Rattle.state_steps.specs.Consumed.{RemoveNone};
-ghost use Rattle.append_offers.specs.Looks.{table_looks};
+ghost use Rattle.flow_news.specs.Looks.{table_looks};
 
 /// A law: a flow may take one look for each row that it takes from its source, where the source, as of
 /// every flow of a store that stands, lost no row since the version at which the flow stands.

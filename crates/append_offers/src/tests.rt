@@ -3,7 +3,7 @@ ghost use Rattle.std.specs.Prelude.{◌≡◌, IfOk, IfSome};
 ghost use Rattle.commit_payloads.specs.Payloads.{IsWritable};
 ghost use Rattle.state_model.specs.Follows.{Fits};
 ghost use Rattle.pair_store.specs.Store.{store_state};
-ghost use Rattle.append_offers.specs.News.{IsListingFor};
+ghost use Rattle.flow_news.specs.News.{IsListingFor};
 
 use crate::{FolderListing, Offer, append_offer};
 use commit_payloads::{Payload, read};

@@ -8,9 +8,9 @@ use Rattle.plan_core.specs.declared.stop.FlowEnd.{FlowEnd}
 use Rattle.pair_store.specs.Store.{store_state}
 use Rattle.pair_store.specs.declared.store.Store.{Store}
 use Rattle.state_model.specs.Dataset.{State}
-use Rattle.append_offers.specs.Commits.{MayBeTaken}
-use Rattle.append_offers.specs.declared.offer.Offer.{Offer}
-use Rattle.append_offers.specs.declared.offer.Offer.TheVariants.{Ready}
+use Rattle.flow_news.specs.Commits.{MayBeTaken}
+use Rattle.flow_news.specs.declared.offer.Offer.{Offer}
+use Rattle.flow_news.specs.declared.offer.Offer.TheVariants.{Ready}
 use Rattle.pair_store.specs.declared.ends.CommitEnd.{CommitEnd}
 use Rattle.pair_store.specs.declared.ends.CommitEnd.TheVariants.{Failed}
 use Rattle.commit_trails.specs.Trails.{Trail}

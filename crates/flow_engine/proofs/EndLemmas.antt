@@ -9,7 +9,7 @@ use Rattle.plan_core.specs.declared.stop.FlowEnd.{FlowEnd}
 use Rattle.plan_core.specs.declared.stop.FlowEnd.TheVariants.{Skipped}
 use Rattle.pair_store.specs.Store.{store_state}
 use Rattle.pair_store.specs.declared.store.Store.{Store}
-use Rattle.append_offers.specs.declared.offer.FolderListing.{FolderListing}
+use Rattle.flow_news.specs.declared.offer.FolderListing.{FolderListing}
 use Rattle.commit_trails.specs.Trails.{Trail}
 use Rattle.flow_engine.specs.declared.ends.End.{End}
 use Rattle.flow_engine.specs.declared.ends.End.TheVariants.{Memory}

@@ -17,7 +17,7 @@ use Rattle.state_steps.specs.Stands.{Stands}
 use Rattle.state_steps.specs.Steps.{flow_named}
 use Rattle.store_fitness.specs.Fitness.{AreAppends, IsReady}
 use Rattle.update_plan.specs.Commits.{AllCommit, PartsKeepText}
-use Rattle.append_offers.specs.declared.offer.Offer.{Offer}
+use Rattle.flow_news.specs.declared.offer.Offer.{Offer}
 use Rattle.commit_trails.specs.Trails.{Trail}
 use Rattle.flow_engine.specs.declared.ends.End.{End}
 use Rattle.flow_engine.specs.Ends.{RunsOut, Settles, acked_by, tried_by}

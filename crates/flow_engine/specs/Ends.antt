@@ -11,9 +11,9 @@ use Rattle.plan_core.specs.declared.stop.FlowEnd.TheVariants.{Completed, Current
 use Rattle.state_model.specs.Dataset.{State, dataset_of, version_of}
 use Rattle.state_model.specs.Follows.{IsAtLimit, WithinVersions}
 use Rattle.append_offers.specs.Offers.{IsOffer}
-use Rattle.append_offers.specs.declared.offer.FolderListing.{FolderListing}
-use Rattle.append_offers.specs.declared.offer.Offer.{Offer}
-use Rattle.append_offers.specs.declared.offer.Offer.TheVariants.{Halted, Idle, Ready, Unfit}
+use Rattle.flow_news.specs.declared.offer.FolderListing.{FolderListing}
+use Rattle.flow_news.specs.declared.offer.Offer.{Offer}
+use Rattle.flow_news.specs.declared.offer.Offer.TheVariants.{Halted, Idle, Ready, Unfit}
 use Rattle.flow_engine.specs.declared.ends.End.{End}
 use Rattle.flow_engine.specs.declared.ends.End.TheVariants.{Disk, Sink, Full, VersionFull, Memory}
 use Rattle.flow_engine.specs.declared.flow_id.FlowId.{FlowId}

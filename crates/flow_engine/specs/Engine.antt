@@ -12,9 +12,9 @@ use Rattle.plan_core.specs.declared.stop.Stop.TheVariants.{Landing}
 use Rattle.state_steps.specs.Stands.{Stands}
 use Rattle.update_plan.specs.Commits.{AllCommit, AreOfPlan}
 use Rattle.commit_trails.specs.Trails.{Trail}
-use Rattle.append_offers.specs.Offers.{IsBlamed}
-use Rattle.append_offers.specs.declared.offer.FolderListing.{FolderListing}
-use Rattle.append_offers.specs.declared.offer.FolderListing.TheVariants as folder
+use Rattle.flow_news.specs.Blames.{IsBlamed}
+use Rattle.flow_news.specs.declared.offer.FolderListing.{FolderListing}
+use Rattle.flow_news.specs.declared.offer.FolderListing.TheVariants as folder
 use Rattle.flow_engine.specs.declared.ends.End.{End}
 use Rattle.flow_engine.specs.declared.engine.Engine.{Engine}
 use Rattle.flow_engine.specs.declared.flow_id.FlowId.{FlowId}

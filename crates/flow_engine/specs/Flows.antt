@@ -10,9 +10,9 @@ use Rattle.plan_core.specs.declared.plan.Body.{Body}
 use Rattle.plan_core.specs.declared.plan.Body.TheVariants as body
 use Rattle.plan_core.specs.declared.plan.Dataset.{Dataset as Part}
 use Rattle.state_steps.specs.Steps.{flow_named}
-use Rattle.append_offers.specs.News.{IsListingFor}
-use Rattle.append_offers.specs.declared.offer.FolderListing.{FolderListing}
-use Rattle.append_offers.specs.declared.offer.FolderListing.TheVariants as folder
+use Rattle.flow_news.specs.News.{IsListingFor}
+use Rattle.flow_news.specs.declared.offer.FolderListing.{FolderListing}
+use Rattle.flow_news.specs.declared.offer.FolderListing.TheVariants as folder
 use Rattle.flow_engine.specs.declared.flow_id.FlowId.{FlowId}
 use Rattle.flow_engine.specs.declared.listings.FolderOf.{FolderOf}
 

@@ -1,6 +1,6 @@
 // What a flow waits for, and by what it reads.
 ghost use Rattle.std.specs.Prelude.{◌≡◌, None, Some, MatchOption};
-ghost use Rattle.append_offers.specs.declared.offer.FolderListing.TheVariants.{NoFolder};
+ghost use Rattle.flow_news.specs.declared.offer.FolderListing.TheVariants.{NoFolder};
 ghost use Rattle.flow_engine.specs.Flows as flows;
 ghost use Rattle.flow_engine.specs.Flows.{blocked_by, listing_for, listing_in};
 

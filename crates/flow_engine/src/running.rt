@@ -8,7 +8,7 @@ ghost use Rattle.plan_core.specs.declared.plan.Dataset.{Dataset as Part};
 ghost use Rattle.plan_core.specs.declared.stop.FlowEnd.TheVariants.{Skipped};
 ghost use Rattle.store_fitness.specs.Fitness.{AreAppends, IsReady};
 ghost use Rattle.append_offers.specs.Looks.{flow_looks};
-ghost use Rattle.append_offers.specs.News.{IsListingFor};
+ghost use Rattle.flow_news.specs.News.{IsListingFor};
 ghost use Rattle.flow_engine.specs.Commits.{HasEnded, MayRun, end_of};
 ghost use Rattle.flow_engine.specs.Ends as spec;
 ghost use Rattle.flow_engine.specs.Ends.{Runs, RunsUnless};

@@ -1,5 +1,5 @@
 -- How much of a text is read, what is known of it during a run, and why it has no plan.
-use Rattle.std.specs.Prelude.{◌≡◌, ◌⊎◌, ℕ, List, take, Option, Some, None, Ok, Err}
+use Rattle.std.specs.Prelude.{◌≡◌, ◌⊎◌, ℕ, List, take, Option, Some, None, Result, Ok, Err}
 use Rattle.sql_tokens.specs.declared.error.SqlRefusal.{SqlRefusal}
 use Rattle.sql_tokens.specs.declared.error.SqlRefusal.TheVariants as reading
 use Rattle.sql_tree.specs.declared.statement.Statement.{Statement}
@@ -28,11 +28,6 @@ pub record IsPipeline (text : List ℕ) (pipeline : Pipeline) : Type 0 where
   pub checked : Checks statements (Ok pipeline.plan)
   pub unbuilt_is : pipeline.unbuilt ≡ unbuilt_in statements pipeline.plan
 
--- This is known of a text, and this much of it is left: nothing, and all of it; or its plan.
-abbrev pub Knows : List ℕ → Option Pipeline → List ℕ → Type 0
-Knows text None left = left ≡ text
-Knows text (Some pipeline) left = IsPipeline text pipeline
-
 -- ---- why a text has no plan
 
 -- a text has no reading, for this cause, as far as it is read
@@ -52,3 +47,25 @@ IsCauseOf text (Unread refusal) = (refusal ≡ reading.Memory) ⊎ HasNoReading 
 IsCauseOf text (Unchecked refusal) = IsBroken text refusal
 IsCauseOf text Memory = Unit {0}
 IsCauseOf text other = ⊥
+
+-- ---- what a text is read as
+
+-- the plan of a text, or why it has none
+abbrev pub ComesTo : List ℕ → Result Pipeline Refusal → Type 0
+ComesTo text (Ok pipeline) = IsPipeline text pipeline
+ComesTo text (Err why) = IsCauseOf text why
+
+-- the statements of a text, or why it has none
+abbrev pub HasRead : List ℕ → Result (List Statement) Refusal → Type 0
+HasRead text (Ok statements) = HasStatements text statements
+HasRead text (Err why) = IsCauseOf text why
+
+-- What a source is read as: what some text comes to and, where the source tells, what this text does.
+pub record ReadAs (tells : Type 0) (text : List ℕ) (result : Result Pipeline Refusal) : Type 0 where
+  pub some : (read : List ℕ) × ComesTo read result
+  pub told : tells → ComesTo text result
+
+-- This is known of the text of a source, and this much of it is left: nothing, and all of it; or its plan.
+abbrev pub Knows : Type 0 → List ℕ → Option Pipeline → List ℕ → Type 0
+Knows tells text None left = tells → left ≡ text
+Knows tells text (Some pipeline) left = ReadAs tells text (Ok pipeline)

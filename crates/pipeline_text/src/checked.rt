@@ -1,7 +1,7 @@
 // The plan of a text.
-ghost use Rattle.std.specs.Prelude.{◌≡◌, ◌≤◌, ◌+◌, ℕ, List, length, IfOk, IfErr, IsErrOf};
+ghost use Rattle.std.specs.Prelude.{◌≡◌, ◌≤◌, ◌+◌, ◌⊎◌, ℕ, List, None, length, IsErrOf, IsSomeAnd};
 ghost use Rattle.disk_model.specs.Faults.{HasCauseOf};
-ghost use Rattle.pipeline_text.specs.Pipelines.{text_limit, HasStatements, IsCauseOf, IsPipeline, Knows};
+ghost use Rattle.pipeline_text.specs.Pipelines.{text_limit, ComesTo, HasStatements, Knows, ReadAs};
 
 use crate::built::unbuilt_in;
 use crate::reading::read_statements;
@@ -23,8 +23,7 @@ pub struct Pipeline {
 
 /// The plan of statements of a text.
 fn checked(alloc: Global, statements: &Statements) -> Result<Pipeline, Refusal>
-    ensures pipeline { (text : List ℕ) → HasStatements text statements.now → IfOk result (IsPipeline text) }
-    ensures err { (text : List ℕ) → HasStatements text statements.now → IfErr result (IsCauseOf text) }
+    ensures comes { (text : List ℕ) → HasStatements text statements.now → ComesTo text result }
     ensures no_fault { IsErrOf result Refusal.TextFailed → ⊥ }
 {
     let plan = match check(alloc, statements) {
@@ -37,8 +36,7 @@ fn checked(alloc: Global, statements: &Statements) -> Result<Pipeline, Refusal>
 
 /// The plan of the text that a source has left.
 fn read_pipeline<T: Source>(alloc: Global, source: &mut T) -> Result<Pipeline, Refusal>
-    ensures pipeline { T.tells → IfOk result (IsPipeline (T.left source.old)) }
-    ensures err { T.tells → IfErr result (IsCauseOf (T.left source.old)) }
+    ensures reads { (text : List ℕ) → (T.tells → T.left source.old ≡ text) → ReadAs T.tells text result }
     ensures amount { T.tells → length (T.left source.old) ≤ length (T.left source.new) + text_limit }
     ensures cause { HasCauseOf Refusal.TextFailed (T.faults source.old) (T.faults source.new) result }
 {
@@ -49,8 +47,8 @@ fn read_pipeline<T: Source>(alloc: Global, source: &mut T) -> Result<Pipeline, R
     checked(alloc, &statements)
 }
 
-/// The pipeline of a run's text: what is known of it, where a command before has read it; else the source is read to
-/// its end, or up to 1,048,577 bytes, one more than a text may have, and its statements are checked. `Unread` and
+/// The pipeline of a run's text: what is known of it, where a command before has read it, and then the source is left
+/// as it was; else the source is read to its end, or up to 1,048,577 bytes, one more than a text may have, and its statements are checked. `Unread` and
 /// `Unchecked` say why the text has no plan, `TextFailed` comes where the source failed, and `Memory`, alone or in
 /// these, for want of it.
 pub fn pipeline_of<T: Source>(
@@ -59,9 +57,10 @@ pub fn pipeline_of<T: Source>(
     known: Option<Pipeline>,
 ) -> Result<Pipeline, Refusal>
     // Whatever the text of the run is.
-    ensures pipeline { T.tells → (text : List ℕ) → Knows text known (T.left source.old) → IfOk result (IsPipeline text) }
-    ensures err { T.tells → (text : List ℕ) → Knows text known (T.left source.old) → IfErr result (IsCauseOf text) }
-    ensures amount { T.tells → (text : List ℕ) → Knows text known (T.left source.old) → length text ≤ length (T.left source.old) + text_limit → length text ≤ length (T.left source.new) + text_limit }
+    ensures reads { (text : List ℕ) → Knows T.tells text known (T.left source.old) → ReadAs T.tells text result }
+    // A known text is not read again.
+    ensures again { IsSomeAnd known (λ _. source.new ≡ source.old) ⊎ (known ≡ None) }
+    ensures amount { T.tells → length (T.left source.old) ≤ length (T.left source.new) + text_limit }
     ensures cause { HasCauseOf Refusal.TextFailed (T.faults source.old) (T.faults source.new) result }
 {
     match known {

@@ -1,8 +1,8 @@
 // The statements of a text.
-ghost use Rattle.std.specs.Prelude.{◌≡◌, ◌≤◌, ◌<◌, ◌+◌, [], ◌++◌, length, take, OnOk, IfOk, IfErr};
+ghost use Rattle.std.specs.Prelude.{◌≡◌, ◌≤◌, ◌<◌, ◌+◌, ℕ, List, [], ◌++◌, length, take, OnOk, IfOk, IsErrOf};
 ghost use Rattle.disk_model.specs.Faults.{HasCauseOf};
 ghost use Rattle.disk_model.specs.Streams.{TakesNext};
-ghost use Rattle.pipeline_text.specs.Pipelines.{text_limit, HasStatements, IsCauseOf};
+ghost use Rattle.pipeline_text.specs.Pipelines.{text_limit, HasRead};
 
 use disk_model::{Failed, Source};
 use message_text::Refusal;
@@ -62,6 +62,7 @@ fn read_piece<T: Source>(
 
 /// The whole text that a source has left, up to the limit.
 fn read_text<T: Source>(alloc: Global, source: &mut T) -> Result<Vec<u8>, Fault>
+    ensures limit { IfOk result (λ text. length text.items ≤ text_limit) }
     ensures text { T.tells → IfOk result (λ text. text.items ≡ take text_limit (T.left source.old)) }
     ensures amount { T.tells → length (T.left source.old) ≤ length (T.left source.new) + text_limit }
     ensures cause { HasCauseOf Fault.Failed (T.faults source.old) (T.faults source.new) result }
@@ -77,14 +78,26 @@ fn read_text<T: Source>(alloc: Global, source: &mut T) -> Result<Vec<u8>, Fault>
     Ok(text)
 }
 
-/// The statements of the text that a source has left.
+/// The statements of what was read of a text.
 #[tactic(auto, unfolding(crate::specs::Pipelines::HasStatements, crate::specs::Pipelines::HasNoReading))]
+fn statements_of(alloc: Global, read_bytes: &[u8]) -> Result<Statements, Refusal>
+    ensures reads { (text : List ℕ) → take text_limit text ≡ read_bytes.now → HasRead text result }
+    ensures no_fault { IsErrOf result Refusal.TextFailed → ⊥ }
+{
+    match read(alloc, read_bytes) {
+        Ok(statements) => Ok(statements),
+        Err(refusal) => Err(Refusal::Unread(refusal)),
+    }
+}
+
+/// The statements of the text that a source has left.
 pub(crate) fn read_statements<T: Source>(
     alloc: Global,
     source: &mut T,
 ) -> Result<Statements, Refusal>
-    ensures statements { T.tells → IfOk result (λ statements. HasStatements (T.left source.old) statements) }
-    ensures err { T.tells → IfErr result (IsCauseOf (T.left source.old)) }
+    // Of some text, whatever the source tells.
+    ensures some { (text : List ℕ) × HasRead text result }
+    ensures told { T.tells → HasRead (T.left source.old) result }
     ensures amount { T.tells → length (T.left source.old) ≤ length (T.left source.new) + text_limit }
     ensures cause { HasCauseOf Refusal.TextFailed (T.faults source.old) (T.faults source.new) result }
 {
@@ -93,8 +106,5 @@ pub(crate) fn read_statements<T: Source>(
         Err(Fault::Failed) => return Err(Refusal::TextFailed),
         Err(Fault::Memory) => return Err(Refusal::Memory),
     };
-    match read(alloc, text.as_slice()) {
-        Ok(statements) => Ok(statements),
-        Err(refusal) => Err(Refusal::Unread(refusal)),
-    }
+    statements_of(alloc, text.as_slice())
 }

@@ -1,5 +1,5 @@
 -- How a flow ends speaks of the landing's files only where the landing tells.
-use Rattle.std.proofs.Common.{◌≡◌, ◌⊎◌, inl, inr, ℕ, List, Option, Some, None, Result, subst}
+use Rattle.std.proofs.Common.{◌≡◌, inl, inr, ℕ, List, Option, Some, None, Result, subst}
 use Rattle.value_core.specs.declared.change.Tally.{Tally}
 use Rattle.value_core.specs.declared.cursor.Cursor.{Cursor}
 use Rattle.value_core.specs.declared.cursor.Cursor.TheVariants.{Files, At, Never}
@@ -16,10 +16,10 @@ use Rattle.plan_core.specs.declared.flow.Origin.TheVariants as origin
 use Rattle.plan_core.specs.declared.plan.Dataset.{Dataset as Part}
 use Rattle.plan_core.specs.declared.stop.FlowEnd.{FlowEnd}
 use Rattle.state_model.specs.Dataset.{Dataset, State, cursor_of, dataset_of}
-use Rattle.append_offers.specs.declared.offer.FolderListing.{FolderListing}
-use Rattle.append_offers.specs.declared.offer.FolderListing.TheVariants as folder
-use Rattle.append_offers.specs.declared.offer.Offer.{Offer}
-use Rattle.append_offers.specs.News.{AreRead, new_rows}
+use Rattle.flow_news.specs.declared.offer.FolderListing.{FolderListing}
+use Rattle.flow_news.specs.declared.offer.FolderListing.TheVariants as folder
+use Rattle.flow_news.specs.declared.offer.Offer.{Offer}
+use Rattle.flow_news.specs.News.{AreRead, new_rows}
 use Rattle.append_offers.specs.Offers.{IsOffer, OfCursor, OfFiles, OfFolder, OfListed, OfOrigin, OfReads}
 use Rattle.flow_engine.specs.declared.ends.End.{End}
 use Rattle.flow_engine.specs.declared.flow_id.FlowId.{FlowId}

@@ -1,25 +1,22 @@
 -- The folders of a plan were listed, each once.
-use Rattle.std.proofs.Common.{◌≡◌, ◌≢◌, ◌⊎◌, inl, inr, ℕ, zero, suc, ◌≤◌, List, [], ◌∷◌, ◌++◌, Bool, true, false, ◌||◌, cond, Option, Some, None, refl, sym, ◌∙◌, ap, subst, arith}
+use Rattle.std.proofs.Common.{◌≡◌, ◌≢◌, ◌⊎◌, inl, inr, ℕ, zero, suc, ◌≤◌, List, [], ◌∷◌, ◌++◌, Bool, true, false, ◌||◌, cond, Some, refl, sym, ◌∙◌, ap, subst, arith}
 use Rattle.std.specs.Prelude.{slice_get, unwrap_or}
 use Rattle.std.specs.List.{AllByRecursion}
 use Rattle.std.specs.Str.{bytes_eq}
 use Rattle.std.proofs.lemmas.List.Folds.{list_any-append}
 use Rattle.std.proofs.lemmas.Slice.Eq.{bytes_eq-Decides}
 use Rattle.landing_core.specs.declared.landing.LandingFile.{LandingFile}
-use Rattle.landing_core.specs.declared.landing.Listed.{Listed}
 use Rattle.landing_core.specs.Folders.{AreThere, listing_of}
 use Rattle.plan_core.specs.declared.flow.AppendFlow.{AppendFlow}
 use Rattle.plan_core.specs.declared.flow.Origin.{Origin}
 use Rattle.plan_core.specs.declared.flow.Origin.TheVariants as origin
-use Rattle.plan_core.specs.declared.plan.Body.{Body}
 use Rattle.plan_core.specs.declared.plan.Body.TheVariants as body
 use Rattle.plan_core.specs.declared.plan.Dataset.{Dataset as Part}
-use Rattle.append_offers.specs.declared.offer.FolderListing.{FolderListing}
-use Rattle.append_offers.specs.declared.offer.FolderListing.TheVariants as folder
-use Rattle.append_offers.specs.News.{IsListing, IsListingFor}
-use Rattle.flow_engine.specs.declared.flow_id.FlowId.{FlowId}
+use Rattle.flow_news.specs.declared.offer.FolderListing.{FolderListing}
+use Rattle.flow_news.specs.declared.offer.FolderListing.TheVariants as folder
+use Rattle.flow_news.specs.News.{IsListing, IsListingFor}
 use Rattle.flow_engine.specs.declared.listings.FolderOf.{FolderOf}
-use Rattle.flow_engine.specs.Flows.{AreListed, IsFlowAt, listing_for, listing_in}
+use Rattle.flow_engine.specs.Flows.{AreListed, listing_for, listing_in}
 use Rattle.update_run.specs.Folders.{AreBlamed, Differ, FailOnly, HasFailedWithin, folder_of, folders_in, folders_listed, folders_of, folders_read, has_folder, with_folder, with_folders}
 use Rattle.update_run.specs.Runs.{AllListed, AreListings, IsListedAs, IsListedFor}
 

@@ -1,5 +1,5 @@
 -- One of several flows has run, and its line was written or not.
-use Rattle.std.proofs.Common.{◌≡◌, inl, inr, ℕ, List, [], ◌++◌, take, Bool, Option, Some, None, Result, Ok, Err, refl, sym, ◌∙◌, ap, subst}
+use Rattle.std.proofs.Common.{◌≡◌, inl, inr, ℕ, List, [], ◌++◌, take, Option, Some, None, Result, Ok, Err, refl, sym, ◌∙◌, subst}
 use Rattle.std.proofs.lemmas.List.{append-nil}
 use Rattle.disk_model.specs.Disk.{DiskState}
 use Rattle.landing_core.specs.declared.landing.LandingFile.{LandingFile}
@@ -12,9 +12,9 @@ use Rattle.state_model.specs.Dataset.{State}
 use Rattle.state_steps.specs.Stands.{Stands}
 use Rattle.update_plan.specs.Commits.{AllCommit}
 use Rattle.commit_trails.specs.Trails.{Trail}
-use Rattle.append_offers.specs.declared.offer.FolderListing.{FolderListing}
-use Rattle.append_offers.specs.declared.offer.Offer.{Offer}
-use Rattle.append_offers.specs.declared.offer.Offer.TheVariants.{Halted, Idle, Ready, Unfit}
+use Rattle.flow_news.specs.declared.offer.FolderListing.{FolderListing}
+use Rattle.flow_news.specs.declared.offer.Offer.{Offer}
+use Rattle.flow_news.specs.declared.offer.Offer.TheVariants.{Halted, Idle, Ready, Unfit}
 use Rattle.flow_engine.specs.declared.ends.End.{End}
 use Rattle.flow_engine.specs.declared.engine.Engine.{Engine}
 use Rattle.flow_engine.specs.declared.flow_id.FlowId.{FlowId}
@@ -24,7 +24,7 @@ use Rattle.flow_engine.specs.Engine.{HasRunFlow}
 use Rattle.flow_engine.specs.Flows.{blocked_by, listing_for}
 use Rattle.flow_engine.specs.Points.{Point, point_of}
 use Rattle.update_run.specs.Runs.{AreSteps, HasCutNext, HasRunNext, landed_by}
-use Rattle.update_run.specs.Updates.{Broke, CutsLine, Untold, is_stop, line_of}
+use Rattle.update_run.specs.Updates.{BlamesLanding, Broke, CutsLine, Untold, is_stop, line_of}
 use Rattle.update_run.proofs.FilesLemmas.{ends_alike}
 
 -- ---- a flow that doesn't end acknowledges nothing
@@ -48,7 +48,7 @@ module _ (tells : Type 0) (files : List LandingFile) (room : ℕ) (acked tried :
 -- ---- a flow and its line
 
 module _ (timed told tells : Type 0) (present ever files past : List LandingFile) (listings : List FolderOf) (same : tells → present ≡ files) (same_ever : tells → ever ≡ past)
-    (plan : List Part) (room : ℕ) (id : FlowId) (engine : Engine) (old new : DiskState) (was now : List ℕ) where
+    (was now : ℕ) (plan : List Part) (room : ℕ) (id : FlowId) (engine : Engine) (old new : DiskState) (before after : List ℕ) where
   steps_here : (state : State) (payloads : List Payload) → AreSteps (landed_by tells present ever listings) plan state payloads → AreSteps (landed_by tells files past listings) plan state payloads
   steps_here state payloads steps = λ t parts stands of_plan.
       subst (λ (e : List LandingFile). AllCommit parts e state payloads parts) (same_ever t)
@@ -67,11 +67,11 @@ module _ (timed told tells : Type 0) (present ever files past : List LandingFile
   trail_whole end later ran = subst (λ (acked : List Payload). Trail timed (point_of engine).state acked ran.tried old new) ran.behind.0 ran.trail
 
   -- its line was written
-  pub next_ran : (end : FlowEnd) (later : Engine) → HasRun (Ok end) later → (told → now ≡ was ++ line_of plan id end)
-      → HasRunNext timed told (landed_by tells files past listings) plan room id (point_of engine) (is_stop end) later old new was now
-  next_ran end later ran line = record {
+  pub next_ran : (end : FlowEnd) (later : Engine) → HasRun (Ok end) later → BlamesLanding was now end → (told → after ≡ before ++ line_of plan id end)
+      → HasRunNext timed told (landed_by tells files past listings) was now plan room id (point_of engine) (is_stop end) later old new before after
+  next_ran end later ran blames line = record {
     ended = record { end = end; payloads = ran.tried };
-    ends = ends_whole end later ran;
+    ends = (ends_whole end later ran, blames);
     stopped_is = refl;
     trail = trail_whole end later ran;
     behind = ran.behind.1;
@@ -80,11 +80,12 @@ module _ (timed told tells : Type 0) (present ever files past : List LandingFile
   }
 
   -- its line wasn't
-  pub next_untold : (end : FlowEnd) (why : End) (later : Engine) → HasRun (Ok end) later → CutsLine why → (told → (bytes : ℕ) × (now ≡ was ++ take bytes (line_of plan id end)))
-      → HasCutNext timed told (landed_by tells files past listings) plan room id (point_of engine) why old new was now
-  next_untold end why later ran cuts front = record {
+  pub next_untold : (end : FlowEnd) (why : End) (later : Engine) → HasRun (Ok end) later → BlamesLanding was now end → CutsLine why
+      → (told → (bytes : ℕ) × (after ≡ before ++ take bytes (line_of plan id end)))
+      → HasCutNext timed told (landed_by tells files past listings) was now plan room id (point_of engine) why old new before after
+  next_untold end why later ran blames cuts front = record {
     cut = Untold (record { end = end; payloads = ran.tried }) why;
-    is = (ends_whole end later ran, cuts);
+    is = ((ends_whole end later ran, blames), cuts);
     why_is = refl;
     trail = trail_whole end later ran;
     front = front;
@@ -92,7 +93,8 @@ module _ (timed told tells : Type 0) (present ever files past : List LandingFile
   }
 
   -- it didn't end
-  pub next_broke : (why : End) (later : Engine) → HasRun (Err why) later → (told → now ≡ was) → HasCutNext timed told (landed_by tells files past listings) plan room id (point_of engine) why old new was now
+  pub next_broke : (why : End) (later : Engine) → HasRun (Err why) later → (told → after ≡ before)
+      → HasCutNext timed told (landed_by tells files past listings) was now plan room id (point_of engine) why old new before after
   next_broke why later ran same_lines =
       let ends = ends_alike tells present files same room ran.acked ran.tried (Err why) listings plan id (point_of engine) ran.ends in
       let none = none_acked tells files room ran.acked ran.tried listings plan id (point_of engine) why ends in
@@ -101,7 +103,7 @@ module _ (timed told tells : Type 0) (present ever files past : List LandingFile
         is = subst (λ (acked : List Payload). FlowEnds tells files listings plan room id (point_of engine) acked ran.tried (Err why)) none ends;
         why_is = refl;
         trail = subst (λ (acked : List Payload). Trail timed (point_of engine).state acked ran.tried old new) none ran.trail;
-        front = λ t. (0, same_lines t ∙ sym (append-nil was));
+        front = λ t. (0, same_lines t ∙ sym (append-nil before));
         steps = steps_here (point_of engine).state ran.tried ran.steps;
       }
 

@@ -1,5 +1,5 @@
 -- Flows in order: how far they have run, and one more.
-use Rattle.std.proofs.Common.{◌≡◌, ℕ, ◌+◌, ◌<◌, ◌≤◌, List, [], ◌∷◌, ◌++◌, length, drop, get_or, Bool, true, false, ◌||◌, Option, Some, None, Result, Ok, Err, refl, sym, ◌∙◌, ap, subst, append_assoc}
+use Rattle.std.proofs.Common.{◌≡◌, ℕ, ◌+◌, ◌<◌, ◌≤◌, List, [], ◌∷◌, ◌++◌, length, drop, get_or, Bool, true, false, ◌||◌, Option, Some, None, Ok, Err, refl, sym, ◌∙◌, ap, subst, append_assoc}
 use Rattle.std.proofs.lemmas.List.{append-nil, drop_all, drop_more}
 use Rattle.disk_model.specs.Disk.{DiskState}
 use Rattle.commit_payloads.specs.declared.payload.Payload.{Payload}
@@ -53,20 +53,20 @@ stop-one one ended = stop-both one (ended ∷ []) ∙ ap (λ (any : Bool). any_s
 -- ---- how far they have run
 
 -- The flows before this place have run from `start` to `here`, and their lines were written.
-pub record GoesOn (timed told : Type 0) (landed : LandingNow) (plan : List Part) (room : ℕ) (flows : List FlowId) (place : ℕ) (start here : Point) (any : Bool) (old new : DiskState) (was now : List ℕ) : Type 0 where
+pub record GoesOn (timed told : Type 0) (landed : LandingNow) (was now : ℕ) (plan : List Part) (room : ℕ) (flows : List FlowId) (place : ℕ) (start here : Point) (any : Bool) (old new : DiskState) (before after : List ℕ) : Type 0 where
   pub ended : List Ended
   pub printed : List ℕ
-  pub continues : (more : List Ended) (cut : Option Cut) → FlowsRun landed.tells landed.present landed.listings plan room (drop place flows) here more cut
-      → FlowsRun landed.tells landed.present landed.listings plan room flows start (ended ++ more) cut
+  pub continues : (more : List Ended) (cut : Option Cut) → FlowsRun landed.tells landed.present landed.listings was now plan room (drop place flows) here more cut
+      → FlowsRun landed.tells landed.present landed.listings was now plan room flows start (ended ++ more) cut
   pub any_is : any ≡ any_stop ended
   pub trail : Trail timed start.state (payloads_of ended) (payloads_of ended) old new
   pub state_is : here.state ≡ state_from start.state (payloads_of ended)
-  pub written : told → now ≡ was ++ printed
+  pub written : told → after ≡ before ++ printed
   pub lines_go_on : (more : List Ended) (cut : Option Cut) (bytes : ℕ) → lines_of plan flows (ended ++ more) cut bytes ≡ printed ++ lines_of plan (drop place flows) more cut bytes
   pub steps : AreSteps landed plan start.state (payloads_of ended)
 
-module _ (keeps : KeepsStanding) (timed told : Type 0) (landed : LandingNow) (plan : List Part) (room : ℕ) (flows : List FlowId) (start : Point) (old : DiskState) (was : List ℕ) where
-  pub begins : Trail timed start.state [] [] old old → GoesOn timed told landed plan room flows 0 start start false old old was was
+module _ (keeps : KeepsStanding) (timed told : Type 0) (landed : LandingNow) (was now : ℕ) (plan : List Part) (room : ℕ) (flows : List FlowId) (start : Point) (old : DiskState) (before : List ℕ) where
+  pub begins : Trail timed start.state [] [] old old → GoesOn timed told landed was now plan room flows 0 start start false old old before before
   begins trail = record {
     ended = [];
     printed = [];
@@ -74,14 +74,14 @@ module _ (keeps : KeepsStanding) (timed told : Type 0) (landed : LandingNow) (pl
     any_is = refl;
     trail = trail;
     state_is = refl;
-    written = λ t. sym (append-nil was);
+    written = λ t. sym (append-nil before);
     lines_go_on = λ more cut bytes. refl;
     steps = no_steps landed plan start.state;
   }
 
-  module _ (place : ℕ) (flow : FlowId) (within : place < length flows) (is : flow ≡ get_or flows place flow) (here : Point) (any : Bool) (mid new : DiskState) (at now : List ℕ)
+  module _ (place : ℕ) (flow : FlowId) (within : place < length flows) (is : flow ≡ get_or flows place flow) (here : Point) (any : Bool) (mid new : DiskState) (at after : List ℕ)
       (joins : (first acked tried : List Payload) → Trail timed start.state first first old mid → Trail timed (state_from start.state first) acked tried mid new → Trail timed start.state (first ++ acked) (first ++ tried) old new)
-      (so_far : GoesOn timed told landed plan room flows place start here any old mid was at) where
+      (so_far : GoesOn timed told landed was now plan room flows place start here any old mid before at) where
     rest : drop place flows ≡ flow ∷ drop (place + 1) flows
     rest = drop_more flows place flow within ∙ ap (λ (first : FlowId). first ∷ drop (place + 1) flows) (sym is)
 
@@ -92,21 +92,21 @@ module _ (keeps : KeepsStanding) (timed told : Type 0) (landed : LandingNow) (pl
     stepped payloads steps = steps_both keeps landed plan start.state (payloads_of so_far.ended) payloads so_far.steps (subst (λ (state : State). AreSteps landed plan state payloads) so_far.state_is steps)
 
     -- one more
-    pub goes_on : (stopped : Bool) (engine : Engine) → HasRunNext timed told landed plan room flow here stopped engine mid new at now
-        → GoesOn timed told landed plan room flows (place + 1) start (point_of engine) (any || stopped) old new was now
+    pub goes_on : (stopped : Bool) (engine : Engine) → HasRunNext timed told landed was now plan room flow here stopped engine mid new at after
+        → GoesOn timed told landed was now plan room flows (place + 1) start (point_of engine) (any || stopped) old new before after
     goes_on stopped engine next = record {
       ended = so_far.ended ++ next.ended ∷ [];
       printed = so_far.printed ++ line_of plan flow next.ended.end;
       continues = λ more cut run.
-          subst (λ (all : List Ended). FlowsRun landed.tells landed.present landed.listings plan room flows start all cut) (sym (append_assoc so_far.ended (next.ended ∷ []) more))
+          subst (λ (all : List Ended). FlowsRun landed.tells landed.present landed.listings was now plan room flows start all cut) (sym (append_assoc so_far.ended (next.ended ∷ []) more))
           (so_far.continues (next.ended ∷ more) cut
-          (subst (λ (left : List FlowId). FlowsRun landed.tells landed.present landed.listings plan room left here (next.ended ∷ more) cut) (sym rest)
-          (next.ends, subst (λ (point : Point). FlowsRun landed.tells landed.present landed.listings plan room (drop (place + 1) flows) point more cut) next.behind run)));
+          (subst (λ (left : List FlowId). FlowsRun landed.tells landed.present landed.listings was now plan room left here (next.ended ∷ more) cut) (sym rest)
+          (next.ends, subst (λ (point : Point). FlowsRun landed.tells landed.present landed.listings was now plan room (drop (place + 1) flows) point more cut) next.behind run)));
       any_is = ap (λ (one : Bool). one || stopped) so_far.any_is ∙ ap (λ (one : Bool). any_stop so_far.ended || one) next.stopped_is ∙ sym (stop-one so_far.ended next.ended);
       trail = subst (λ (list : List Payload). Trail timed start.state list list old new) (sym own) (joined next.ended.payloads next.ended.payloads next.trail);
       state_is = ap (λ (point : Point). point.state) next.behind ∙ ap (λ (state : State). state_from state next.ended.payloads) so_far.state_is
           ∙ sym (state_after_both start.state (payloads_of so_far.ended) next.ended.payloads) ∙ ap (state_from start.state) (sym own);
-      written = λ t. next.line t ∙ ap (λ (list : List ℕ). list ++ line_of plan flow next.ended.end) (so_far.written t) ∙ append_assoc was so_far.printed (line_of plan flow next.ended.end);
+      written = λ t. next.line t ∙ ap (λ (list : List ℕ). list ++ line_of plan flow next.ended.end) (so_far.written t) ∙ append_assoc before so_far.printed (line_of plan flow next.ended.end);
       lines_go_on = λ more cut bytes.
           ap (λ (all : List Ended). lines_of plan flows all cut bytes) (append_assoc so_far.ended (next.ended ∷ []) more)
           ∙ so_far.lines_go_on (next.ended ∷ more) cut bytes
@@ -118,12 +118,12 @@ module _ (keeps : KeepsStanding) (timed told : Type 0) (landed : LandingNow) (pl
       own = payloads-both so_far.ended (next.ended ∷ []) ∙ ap (λ (list : List Payload). payloads_of so_far.ended ++ list) (append-nil next.ended.payloads)
 
     -- the last, which was cut short
-    pub cut_short : (why : End) → HasCutNext timed told landed plan room flow here why mid new at now → HaveRun timed told landed plan room flows start (Err why) old new was now
+    pub cut_short : (why : End) → HasCutNext timed told landed was now plan room flow here why mid new at after → HaveRun timed told landed was now plan room flows start (Err why) old new before after
     cut_short why next = record {
       ended = so_far.ended;
       cut = Some next.cut;
-      run = subst (λ (all : List Ended). FlowsRun landed.tells landed.present landed.listings plan room flows start all (Some next.cut)) (append-nil so_far.ended)
-          (so_far.continues [] (Some next.cut) (subst (λ (left : List FlowId). FlowsRun landed.tells landed.present landed.listings plan room left here [] (Some next.cut)) (sym rest) next.is));
+      run = subst (λ (all : List Ended). FlowsRun landed.tells landed.present landed.listings was now plan room flows start all (Some next.cut)) (append-nil so_far.ended)
+          (so_far.continues [] (Some next.cut) (subst (λ (left : List FlowId). FlowsRun landed.tells landed.present landed.listings was now plan room left here [] (Some next.cut)) (sym rest) next.is));
       answer_is = sym next.why_is ∙ same-answer next.cut so_far.ended;
       trail = subst (λ (acked : List Payload). Trail timed start.state acked (tried_of so_far.ended (Some next.cut)) old new) (sym its-acked)
           (subst (λ (tried : List Payload). Trail timed start.state (payloads_of so_far.ended ++ cut_acked (Some next.cut)) tried old new) (sym its-tried)
@@ -131,8 +131,8 @@ module _ (keeps : KeepsStanding) (timed told : Type 0) (landed : LandingNow) (pl
       lines = λ t.
           let front = next.front t in (
             front.0,
-            front.1 ∙ ap (λ (list : List ℕ). list ++ front_of_line plan flow (Some next.cut) front.0) (so_far.written t) ∙ append_assoc was so_far.printed (front_of_line plan flow (Some next.cut) front.0)
-                ∙ ap (λ (list : List ℕ). was ++ list) (sym (ap (λ (all : List Ended). lines_of plan flows all (Some next.cut) front.0) (sym (append-nil so_far.ended))
+            front.1 ∙ ap (λ (list : List ℕ). list ++ front_of_line plan flow (Some next.cut) front.0) (so_far.written t) ∙ append_assoc before so_far.printed (front_of_line plan flow (Some next.cut) front.0)
+                ∙ ap (λ (list : List ℕ). before ++ list) (sym (ap (λ (all : List Ended). lines_of plan flows all (Some next.cut) front.0) (sym (append-nil so_far.ended))
                 ∙ so_far.lines_go_on [] (Some next.cut) front.0 ∙ ap (λ (left : List FlowId). so_far.printed ++ lines_of plan left [] (Some next.cut) front.0) rest)),
           );
       steps = subst (λ (tried : List Payload). AreSteps landed plan start.state tried) (sym its-tried) (stepped (cut_tried (Some next.cut)) next.steps);
@@ -148,17 +148,17 @@ module _ (keeps : KeepsStanding) (timed told : Type 0) (landed : LandingNow) (pl
       its-tried = ap (λ (all : List Ended). tried_of all (Some next.cut)) (sym (append-nil so_far.ended)) ∙ tried-both so_far.ended [] (Some next.cut)
 
   -- all of them
-  pub all_ran : (place : ℕ) (here : Point) (any : Bool) (new : DiskState) (now : List ℕ) → length flows ≤ place → GoesOn timed told landed plan room flows place start here any old new was now
-      → HaveRun timed told landed plan room flows start (Ok any) old new was now
-  all_ran place here any new now past so_far = record {
+  pub all_ran : (place : ℕ) (here : Point) (any : Bool) (new : DiskState) (after : List ℕ) → length flows ≤ place → GoesOn timed told landed was now plan room flows place start here any old new before after
+      → HaveRun timed told landed was now plan room flows start (Ok any) old new before after
+  all_ran place here any new after past so_far = record {
     ended = so_far.ended;
     cut = None;
-    run = subst (λ (all : List Ended). FlowsRun landed.tells landed.present landed.listings plan room flows start all None) (append-nil so_far.ended)
-        (so_far.continues [] None (subst (λ (left : List FlowId). FlowsRun landed.tells landed.present landed.listings plan room left here [] None) (sym none) tt));
+    run = subst (λ (all : List Ended). FlowsRun landed.tells landed.present landed.listings was now plan room flows start all None) (append-nil so_far.ended)
+        (so_far.continues [] None (subst (λ (left : List FlowId). FlowsRun landed.tells landed.present landed.listings was now plan room left here [] None) (sym none) tt));
     answer_is = ap (λ (stopped : Bool). Ok stopped) so_far.any_is;
     trail = subst (λ (acked : List Payload). Trail timed start.state acked (tried_of so_far.ended None) old new) (sym its-acked)
         (subst (λ (tried : List Payload). Trail timed start.state (payloads_of so_far.ended) tried old new) (sym its-tried) so_far.trail);
-    lines = λ t. (0, so_far.written t ∙ ap (λ (list : List ℕ). was ++ list) (sym its-lines));
+    lines = λ t. (0, so_far.written t ∙ ap (λ (list : List ℕ). before ++ list) (sym its-lines));
     steps = subst (λ (tried : List Payload). AreSteps landed plan start.state tried) (sym its-tried) so_far.steps;
   } where
     none : drop place flows ≡ []

@@ -1,5 +1,5 @@
 -- Payloads that are steps of a store that stands, one list after the other.
-use Rattle.std.proofs.Common.{◌≡◌, List, [], ◌∷◌, ◌++◌, refl, sym, ◌∙◌, ap, subst}
+use Rattle.std.proofs.Common.{◌≡◌, List, [], ◌∷◌, ◌++◌, refl, sym, subst}
 use Rattle.landing_core.specs.declared.landing.LandingFile.{LandingFile}
 use Rattle.commit_payloads.specs.declared.payload.Payload.{Payload}
 use Rattle.plan_core.specs.declared.plan.Dataset.{Dataset as Part}

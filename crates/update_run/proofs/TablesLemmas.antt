@@ -1,15 +1,11 @@
 -- The worked plan is sound.
-use Rattle.std.proofs.Common.{◌≡◌, ◌≢◌, ℕ, zero, suc, ◌+◌, ◌<◌, ◌≤◌, List, [], ◌∷◌, length, drop, get_or, Bool, true, false, cond, Option, Some, None, refl, sym, ◌∙◌, ap, subst, arith}
-use Rattle.std.specs.Prelude.{All, AllPairs, IsTrue, IsSomeAnd, not, option_map, slice_index_or}
-use Rattle.std.specs.List.{AllByRecursion}
-use Rattle.std.proofs.lemmas.List.{drop_all, drop_more}
-use Rattle.value_core.specs.declared.cursor.Format.TheVariants.{Json}
+use Rattle.std.proofs.Common.{◌≡◌, ℕ, zero, suc, List, [], ◌∷◌, Bool, true, cond, Option, Some, None, refl, sym, ◌∙◌, ap, subst, arith}
+use Rattle.std.specs.Prelude.{All, AllPairs, IsTrue, not}
 use Rattle.value_core.specs.declared.schema.Column.{Column}
-use Rattle.value_core.specs.declared.shape.Shape.{Shape}
 use Rattle.value_core.specs.declared.value.Kind.{Kind}
 use Rattle.value_core.specs.declared.value.Kind.TheVariants as kind
 use Rattle.value_core.specs.NameFold.{same_name}
-use Rattle.row_expr.specs.declared.expr.Expr.{Expr, fold-roll-Expr}
+use Rattle.row_expr.specs.declared.expr.Expr.{fold-roll-Expr}
 use Rattle.row_expr.specs.declared.expr.Expr.TheOpen as form
 use Rattle.row_expr.specs.declared.expr.Expr.TheVariants as expr
 use Rattle.row_expr.specs.declared.expr.Expr.TheVariants.{rolls-Column}
@@ -17,12 +13,11 @@ use Rattle.row_expr.specs.declared.sort.Sort.{Sort}
 use Rattle.row_expr.specs.declared.sort.Sort.TheVariants.{Of}
 use Rattle.row_expr.specs.Columns.{arm_reads_at, reads_at, reads_within}
 use Rattle.row_expr.specs.Kinds.{arm_at, kind_in, sort_at, sort_of}
-use Rattle.plan_core.specs.declared.flow.AppendFlow.{AppendFlow}
 use Rattle.plan_core.specs.declared.flow.Origin.{Origin}
 use Rattle.plan_core.specs.declared.flow.Origin.TheVariants as origin
 use Rattle.plan_core.specs.declared.plan.Dataset.{Dataset as Part}
-use Rattle.plan_core.specs.Sound.{IsSoundAppend, IsSoundBody, IsSoundFlow, IsSoundPlan, all_there, flow_columns, kind_over, kinds_of, kinds_over}
-use Rattle.update_run.specs.TwoTables.{column_a, columns_a, flow_over, flow_with, shape_a, table_over, table_t, table_u, table_with, two_tables}
+use Rattle.plan_core.specs.Sound.{IsSoundAppend, IsSoundBody, IsSoundFlow, IsSoundPlan, all_there, flow_columns, kind_over, kinds_of}
+use Rattle.update_run.specs.TwoTables.{columns_a, flow_over, shape_a, table_t, table_u, two_tables}
 
 -- ---- it is sound
 

@@ -9,8 +9,8 @@ use Rattle.plan_core.specs.declared.flow.Origin.TheVariants as origin
 use Rattle.plan_core.specs.declared.plan.Body.{Body}
 use Rattle.plan_core.specs.declared.plan.Body.TheVariants as body
 use Rattle.plan_core.specs.declared.plan.Dataset.{Dataset as Part}
-use Rattle.append_offers.specs.declared.offer.FolderListing.{FolderListing}
-use Rattle.append_offers.specs.declared.offer.FolderListing.TheVariants as folder
+use Rattle.flow_news.specs.declared.offer.FolderListing.{FolderListing}
+use Rattle.flow_news.specs.declared.offer.FolderListing.TheVariants as folder
 use Rattle.flow_engine.specs.declared.listings.FolderOf.{FolderOf}
 
 -- ---- which folders

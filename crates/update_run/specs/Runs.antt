@@ -16,8 +16,8 @@ use Rattle.state_model.specs.Dataset.{State}
 use Rattle.state_steps.specs.Stands.{Stands}
 use Rattle.update_plan.specs.Commits.{AllCommit, AreOfPlan}
 use Rattle.commit_trails.specs.Trails.{Trail}
-use Rattle.append_offers.specs.declared.offer.FolderListing.{FolderListing}
-use Rattle.append_offers.specs.declared.offer.FolderListing.TheVariants as folder
+use Rattle.flow_news.specs.declared.offer.FolderListing.{FolderListing}
+use Rattle.flow_news.specs.declared.offer.FolderListing.TheVariants as folder
 use Rattle.flow_engine.specs.declared.engine.Engine.{Engine}
 use Rattle.flow_engine.specs.declared.ends.End.{End}
 use Rattle.flow_engine.specs.declared.ends.End.TheVariants.{Memory}
@@ -66,38 +66,38 @@ AreSteps landed plan state payloads =
     landed.tells → (parts : List Part) → Stands parts landed.ever state → AreOfPlan parts plan → AllCommit parts landed.ever state payloads parts
 
 -- a flow ended, and its line was printed where the output tells
-pub record HasRunNext (timed told : Type 0) (landed : LandingNow) (plan : List Part) (room : ℕ) (id : FlowId) (point : Point) (stopped : Bool) (engine : Engine) (old new : DiskState) (was now : List ℕ) : Type 0 where
+pub record HasRunNext (timed told : Type 0) (landed : LandingNow) (was now : ℕ) (plan : List Part) (room : ℕ) (id : FlowId) (point : Point) (stopped : Bool) (engine : Engine) (old new : DiskState) (before after : List ℕ) : Type 0 where
   pub ended : Ended
-  pub ends : EndsAs landed.tells landed.present landed.listings plan room id point ended
+  pub ends : EndsAs landed.tells landed.present landed.listings was now plan room id point ended
   pub stopped_is : stopped ≡ is_stop ended.end
   pub trail : Trail timed point.state ended.payloads ended.payloads old new
   pub behind : point_of engine ≡ point_after id.dataset ended.end ended.payloads point
-  pub line : told → now ≡ was ++ line_of plan id ended.end
+  pub line : told → after ≡ before ++ line_of plan id ended.end
   pub steps : AreSteps landed plan point.state ended.payloads
 
 -- it was cut short
-pub record HasCutNext (timed told : Type 0) (landed : LandingNow) (plan : List Part) (room : ℕ) (id : FlowId) (point : Point) (why : End) (old new : DiskState) (was now : List ℕ) : Type 0 where
+pub record HasCutNext (timed told : Type 0) (landed : LandingNow) (was now : ℕ) (plan : List Part) (room : ℕ) (id : FlowId) (point : Point) (why : End) (old new : DiskState) (before after : List ℕ) : Type 0 where
   pub cut : Cut
-  pub is : IsCut landed.tells landed.present landed.listings plan room id point cut
+  pub is : IsCut landed.tells landed.present landed.listings was now plan room id point cut
   pub why_is : answer_of [] (Some cut) ≡ Err why
   pub trail : Trail timed point.state (cut_acked (Some cut)) (cut_tried (Some cut)) old new
-  pub front : told → (bytes : ℕ) × (now ≡ was ++ front_of_line plan id (Some cut) bytes)
+  pub front : told → (bytes : ℕ) × (after ≡ before ++ front_of_line plan id (Some cut) bytes)
   pub steps : AreSteps landed plan point.state (cut_tried (Some cut))
 
 -- one of several flows has run, and whether it stopped
-abbrev pub RunsNext : Type 0 → Type 0 → LandingNow → List Part → ℕ → FlowId → Point → Result Bool End → Engine → DiskState → DiskState → List ℕ → List ℕ → Type 0
-RunsNext timed told landed plan room id point (Ok stopped) engine old new was now = HasRunNext timed told landed plan room id point stopped engine old new was now
-RunsNext timed told landed plan room id point (Err why) engine old new was now = HasCutNext timed told landed plan room id point why old new was now
+abbrev pub RunsNext : Type 0 → Type 0 → LandingNow → ℕ → ℕ → List Part → ℕ → FlowId → Point → Result Bool End → Engine → DiskState → DiskState → List ℕ → List ℕ → Type 0
+RunsNext timed told landed was now plan room id point (Ok stopped) engine old new before after = HasRunNext timed told landed was now plan room id point stopped engine old new before after
+RunsNext timed told landed was now plan room id point (Err why) engine old new before after = HasCutNext timed told landed was now plan room id point why old new before after
 
 -- Flows have run from what stood before the first of them: how they ended, what they committed, what a crash leaves, and what they
 -- printed where the output tells.
-pub record HaveRun (timed told : Type 0) (landed : LandingNow) (plan : List Part) (room : ℕ) (flows : List FlowId) (point : Point) (answer : Result Bool End) (old new : DiskState) (was now : List ℕ) : Type 0 where
+pub record HaveRun (timed told : Type 0) (landed : LandingNow) (was now : ℕ) (plan : List Part) (room : ℕ) (flows : List FlowId) (point : Point) (answer : Result Bool End) (old new : DiskState) (before after : List ℕ) : Type 0 where
   pub ended : List Ended
   pub cut : Option Cut
-  pub run : FlowsRun landed.tells landed.present landed.listings plan room flows point ended cut
+  pub run : FlowsRun landed.tells landed.present landed.listings was now plan room flows point ended cut
   pub answer_is : answer ≡ answer_of ended cut
   pub trail : Trail timed point.state (acked_of ended cut) (tried_of ended cut) old new
-  pub lines : told → (bytes : ℕ) × (now ≡ was ++ lines_of plan flows ended cut bytes)
+  pub lines : told → (bytes : ℕ) × (after ≡ before ++ lines_of plan flows ended cut bytes)
   pub steps : AreSteps landed plan point.state (tried_of ended cut)
 
 -- ---- an update
@@ -107,18 +107,18 @@ abbrev pub landed_by : Type 0 → List LandingFile → List LandingFile → List
 landed_by tells present ever listings = record { tells = tells; present = present; ever = ever; listings = listings }
 
 -- all flows of a plan ran in their order, by what the landing listed before the first of them, each folder once
-pub record HasUpdated (timed told tells : Type 0) (present ever : List LandingFile) (plan : List Part) (room : ℕ) (point : Point) (answer : Result Bool End) (old new : DiskState) (was now : List ℕ) : Type 0 where
+pub record HasUpdated (timed told tells : Type 0) (present ever : List LandingFile) (was now : ℕ) (plan : List Part) (room : ℕ) (point : Point) (answer : Result Bool End) (old new : DiskState) (before after : List ℕ) : Type 0 where
   pub listings : List FolderOf
   pub once : folders_listed listings ≡ with_folders [] (folders_read plan)
   pub listed : AllListed tells plan present listings
-  pub ran : HaveRun timed told (landed_by tells present ever listings) plan room (flow_order plan) point answer old new was now
+  pub ran : HaveRun timed told (landed_by tells present ever listings) was now plan room (flow_order plan) point answer old new before after
 
 -- or memory ran out before that, and nothing was done
-pub record HasNotBegun (timed told : Type 0) (point : Point) (answer : Result Bool End) (old new : DiskState) (was now : List ℕ) : Type 0 where
+pub record HasNotBegun (timed told : Type 0) (point : Point) (answer : Result Bool End) (old new : DiskState) (before after : List ℕ) : Type 0 where
   pub answer_is : answer ≡ Err Memory
   pub trail : Trail timed point.state [] [] old new
-  pub printed : told → now ≡ was
+  pub printed : told → after ≡ before
 
-abbrev pub Updates : Type 0 → Type 0 → Type 0 → List LandingFile → List LandingFile → List Part → ℕ → Point → Result Bool End → DiskState → DiskState → List ℕ → List ℕ → Type 0
-Updates timed told tells present ever plan room point answer old new was now =
-    HasNotBegun timed told point answer old new was now ⊎ HasUpdated timed told tells present ever plan room point answer old new was now
+abbrev pub Updates : Type 0 → Type 0 → Type 0 → List LandingFile → List LandingFile → ℕ → ℕ → List Part → ℕ → Point → Result Bool End → DiskState → DiskState → List ℕ → List ℕ → Type 0
+Updates timed told tells present ever was now plan room point answer old new before after =
+    HasNotBegun timed told point answer old new before after ⊎ HasUpdated timed told tells present ever was now plan room point answer old new before after

@@ -1,10 +1,12 @@
 -- The flows of an update, each from what those before it left.
-use Rattle.std.specs.Prelude.{◌≡◌, ◌⊎◌, ⊤, ℕ, List, [], ◌∷◌, ◌++◌, take, Bool, true, false, ◌||◌, slice_get, Option, Some, None, Result, Ok, Err}
+use Rattle.std.specs.Prelude.{◌≤◌, ⊤, ℕ, List, [], ◌∷◌, ◌++◌, take, Bool, true, false, ◌||◌, slice_get, Option, Some, None, Result, Ok, Err}
+use Rattle.disk_model.specs.Faults.{Rose}
 use Rattle.commit_payloads.specs.declared.payload.Payload.{Payload}
 use Rattle.landing_core.specs.declared.landing.LandingFile.{LandingFile}
 use Rattle.plan_core.specs.declared.plan.Dataset.{Dataset as Part}
 use Rattle.plan_core.specs.declared.stop.FlowEnd.{FlowEnd}
 use Rattle.plan_core.specs.declared.stop.FlowEnd.TheVariants.{Completed, Current, Stopped, Skipped}
+use Rattle.plan_core.specs.declared.stop.Stop.TheVariants.{Landing}
 use Rattle.report_text.specs.Ends.{print_flow_line}
 use Rattle.flow_engine.specs.declared.ends.End.{End}
 use Rattle.flow_engine.specs.declared.ends.End.TheVariants.{Sink, Memory}
@@ -23,16 +25,22 @@ pub data Cut : Type 0 where
   Broke : End → List Payload → Cut
   Untold : Ended → End → Cut
 
+-- a stop that says that the landing failed comes only where its count of faults rose, between these counts
+abbrev pub BlamesLanding : ℕ → ℕ → FlowEnd → Type 0
+BlamesLanding was now (Stopped (Landing before after)) = (was ≤ before) × Rose before after × (after ≤ now)
+BlamesLanding was now other = ⊤
+
 -- a line is cut short by the output, or for want of memory
 abbrev pub CutsLine : End → Type 0
 CutsLine Sink = ⊤
 CutsLine Memory = ⊤
 CutsLine end = ⊥
 
-module _ (tells : Type 0) (files : List LandingFile) (listings : List FolderOf) (plan : List Part) (room : ℕ) where
+-- whether the landing tells, its files, what it listed, and its counts of faults before and after
+module _ (tells : Type 0) (files : List LandingFile) (listings : List FolderOf) (was now : ℕ) (plan : List Part) (room : ℕ) where
   -- the flow at a place ends so
   abbrev pub EndsAs : FlowId → Point → Ended → Type 0
-  EndsAs id point ended = FlowEnds tells files listings plan room id point ended.payloads ended.payloads (Ok ended.end)
+  EndsAs id point ended = FlowEnds tells files listings plan room id point ended.payloads ended.payloads (Ok ended.end) × BlamesLanding was now ended.end
 
   abbrev pub IsCut : FlowId → Point → Cut → Type 0
   IsCut id point (Broke end tried) = FlowEnds tells files listings plan room id point [] tried (Err end)

@@ -12,6 +12,7 @@ ghost use Rattle.store_fitness.specs.Fitness.{AreAppends, IsReady};
 ghost use Rattle.flow_engine.specs.Flows.{AreListed, IsFlow};
 ghost use Rattle.flow_engine.specs.Points.{engine_halted, engine_state, engine_store, point_of};
 ghost use Rattle.flow_engine.specs.declared.ends.End.TheVariants.{Disk, Sink as sink};
+ghost use Rattle.update_run.specs.Folders.{AreBlamed};
 ghost use Rattle.update_run.specs.Runs.{HaveRun, RunsNext, landed_by};
 
 use crate::telling::{is_stop, tell};
@@ -55,7 +56,8 @@ fn run_next<D: Disk, L: Landing, S: Sink, H: Threads + Sync, G: Gate + Sync, K: 
 
     ensures runs { D.tells → IsHonest (D.state disk.old) → (files past : List LandingFile)
         → (L.tells → L.present landing.old ≡ files) → (L.tells → L.ever landing.old ≡ past) → (L.tells → HoldsPresent files past)
-        → RunsNext D.tells_moments S.tells (landed_by L.tells files past listings.now) plan.now (D.room disk.old) flow (point_of engine.old) result engine.new (D.state disk.old) (D.state disk.new) (S.written out.old) (S.written out.new) }
+        → (was now : ℕ) → AreBlamed was now listings.now → was ≤ L.faults landing.old → L.faults landing.new ≤ now
+        → RunsNext D.tells_moments S.tells (landed_by L.tells files past listings.now) was now plan.now (D.room disk.old) flow (point_of engine.old) result engine.new (D.state disk.old) (D.state disk.new) (S.written out.old) (S.written out.new) }
 
     // The next flow may run.
     ensures ready { OnOk result (IsReady plan.now (engine_state engine.new)) }
@@ -119,7 +121,8 @@ pub(crate) fn run_all<D: Disk, L: Landing, S: Sink, H: Threads + Sync, G: Gate +
 
     ensures runs { D.tells → (files past : List LandingFile)
         → (L.tells → L.present landing.old ≡ files) → (L.tells → L.ever landing.old ≡ past) → (L.tells → HoldsPresent files past)
-        → HaveRun D.tells_moments S.tells (landed_by L.tells files past listings.now) plan.now (D.room disk.old) flows.now (point_of engine.old) result (D.state disk.old) (D.state disk.new) (S.written out.old) (S.written out.new) }
+        → (was now : ℕ) → AreBlamed was now listings.now → was ≤ L.faults landing.old → L.faults landing.new ≤ now
+        → HaveRun D.tells_moments S.tells (landed_by L.tells files past listings.now) was now plan.now (D.room disk.old) flows.now (point_of engine.old) result (D.state disk.old) (D.state disk.new) (S.written out.old) (S.written out.new) }
 
     ensures honest { D.tells → IsHonest (D.state disk.new) }
     ensures present { L.tells → L.present landing.new ≡ L.present landing.old }

@@ -55,7 +55,7 @@ pub fn run_update<D: Disk, L: Landing, S: Sink, H: Threads + Sync, G: Gate + Syn
     requires honest { D.tells → IsHonest (D.state disk.old) }
 
     ensures updates { D.tells → (L.tells → HoldsPresent (L.present landing.old) (L.ever landing.old))
-        → Updates D.tells_moments S.tells L.tells (L.present landing.old) (L.ever landing.old) plan.now (D.room disk.old) (point_of engine.old) result (D.state disk.old) (D.state disk.new) (S.written out.old) (S.written out.new) }
+        → Updates D.tells_moments S.tells L.tells (L.present landing.old) (L.ever landing.old) (L.faults landing.old) (L.faults landing.new) plan.now (D.room disk.old) (point_of engine.old) result (D.state disk.old) (D.state disk.new) (S.written out.old) (S.written out.new) }
 
     ensures honest { D.tells → IsHonest (D.state disk.new) }
     ensures present { L.tells → L.present landing.new ≡ L.present landing.old }

@@ -1,5 +1,5 @@
 use Rattle.std.proofs.Common.{subst}
-use Rattle.append_offers.specs.declared.offer.FolderListing.{FolderListing}
+use Rattle.flow_news.specs.declared.offer.FolderListing.{FolderListing}
 use Rattle.pair_store.specs.Store.{store_state}
 use Rattle.flow_engine.specs.Commits.{HasEnded, end_of}
 use Rattle.flow_engine.specs.Ends.{Runs}

@@ -3,7 +3,7 @@ use Rattle.plan_core.specs.declared.stop.FlowEnd.TheVariants.{Current, Stopped}
 use Rattle.pair_state.specs.Leads.{IsReachable}
 use Rattle.pair_store.specs.Store.{store_state}
 use Rattle.store_fitness.specs.Fitness.{IsReady}
-use Rattle.append_offers.specs.declared.offer.Offer.TheVariants.{Halted, Idle}
+use Rattle.flow_news.specs.declared.offer.Offer.TheVariants.{Halted, Idle}
 use Rattle.flow_engine.proofs.CommitLemmas.{may_take, settled_none}
 use Rattle.flow_engine.proofs.settle.settle.Goals as goal
 

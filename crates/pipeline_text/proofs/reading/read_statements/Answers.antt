@@ -1,9 +1,14 @@
-use Rattle.std.proofs.Common.{◌∙◌, ℕ, List, subst}
-use Rattle.pipeline_sql.specs.Read.{IsRead}
-use Rattle.pipeline_text.specs.Pipelines.{HasStatements}
+use Rattle.std.proofs.Common.{◌∙◌, sym}
+use Rattle.std.proofs.lemmas.List.{take_all}
+use Rattle.pipeline_text.specs.Pipelines.{text_limit}
 use Rattle.pipeline_text.proofs.reading.read_statements.Goals as goal
 
-pub returns-in-Ok-read-clause-statements : goal.returns-in-Ok-read-clause-statements
-unfolding HasStatements
-returns-in-Ok-read-clause-statements g c tells =
-    subst (λ (text : List ℕ). IsRead text c.in-Ok-read.statements) (c.as_slice.ensures.value ∙ c.in-Ok.ensures.text tells) c.in-Ok-read.ensures.read
+-- what was read is some text
+pub returns-clause-some : goal.returns-clause-some
+returns-clause-some g c =
+    let read = c.in-Ok.text.items in
+    (read, c.statements_of.ensures.reads read (take_all text_limit read c.in-Ok.ensures.limit ∙ sym c.as_slice.ensures.value))
+
+pub returns-clause-told : goal.returns-clause-told
+returns-clause-told g c tells =
+    c.statements_of.ensures.reads (g.T.Source.left c.args.source.now) (sym (c.as_slice.ensures.value ∙ c.in-Ok.ensures.text tells))

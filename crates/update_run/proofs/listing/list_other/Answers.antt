@@ -1,7 +1,6 @@
-use Rattle.std.proofs.Common.{◌≡◌, ℕ, List, [], ◌∷◌, ◌++◌, sym, subst, ap, ◌∙◌}
-use Rattle.append_offers.specs.declared.offer.FolderListing.{FolderListing}
+use Rattle.std.proofs.Common.{◌≡◌, ℕ, List, sym, subst, ◌∙◌}
 use Rattle.flow_engine.specs.declared.listings.FolderOf.{FolderOf}
-use Rattle.update_run.specs.Folders.{AreBlamed, FailOnly}
+use Rattle.update_run.specs.Folders.{FailOnly}
 use Rattle.update_run.specs.Runs.{AreListings, IsListedAs}
 use Rattle.update_run.proofs.ListingLemmas.{fail_only_more, listing_still, listings_still, one_more}
 use Rattle.update_run.proofs.listing.list_other.Goals as goal

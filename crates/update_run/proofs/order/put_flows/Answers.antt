@@ -1,4 +1,4 @@
-use Rattle.std.proofs.Common.{◌+◌, ◌-◌, ◌++◌, List, [], ◌∷◌}
+use Rattle.std.proofs.Common.{◌+◌, ◌-◌, ◌++◌, [], ◌∷◌}
 use Rattle.update_run.specs.Order.{flows_from}
 use Rattle.update_run.proofs.OrderLemmas.{flow_at, flows_from_more, items_more}
 use Rattle.update_run.proofs.order.put_flows.Goals as goal

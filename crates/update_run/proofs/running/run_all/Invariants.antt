@@ -1,4 +1,4 @@
-use Rattle.std.proofs.Common.{◌≡◌, ◌≤◌, List, None, length}
+use Rattle.std.proofs.Common.{◌≡◌, ◌≤◌, ℕ, List, None, length}
 use Rattle.disk_model.specs.Disk.{IsHonest}
 use Rattle.landing_core.specs.declared.landing.LandingFile.{LandingFile}
 use Rattle.landing_core.specs.Folders.{HoldsPresent}
@@ -6,6 +6,7 @@ use Rattle.pair_store.specs.Store.{AreAsLeft, store_broken}
 use Rattle.store_fitness.specs.Fitness.{IsReady}
 use Rattle.flow_engine.specs.Flows.{AreListed}
 use Rattle.flow_engine.specs.Points.{engine_halted, engine_state, engine_store, point_of}
+use Rattle.update_run.specs.Folders.{AreBlamed}
 use Rattle.update_run.specs.Runs.{landed_by}
 use Rattle.update_run.proofs.SeriesLemmas.{GoesOn}
 use Rattle.update_run.proofs.running.run_all.Given as goal
@@ -17,7 +18,8 @@ invariant-loop-flow g l =
     let s = g.S.Sink in
     record {
       runs : d.tells → (files past : List LandingFile) → (f.tells → f.present l.initial.landing ≡ files) → (f.tells → f.ever l.initial.landing ≡ past) → (f.tells → HoldsPresent files past)
-          → GoesOn d.tells_moments s.tells (landed_by f.tells files past l.listings) l.plan (d.room l.initial.disk) l.flows l.flow-index (point_of l.initial.engine) (point_of l.engine) l.any
+          → (was now : ℕ) → AreBlamed was now l.listings → was ≤ f.faults l.initial.landing → f.faults l.landing ≤ now
+          → GoesOn d.tells_moments s.tells (landed_by f.tells files past l.listings) was now l.plan (d.room l.initial.disk) l.flows l.flow-index (point_of l.initial.engine) (point_of l.engine) l.any
           (d.state l.initial.disk) (d.state l.disk) (s.written l.initial.out) (s.written l.out);
       listed : AreListed f.tells l.plan (f.present l.landing) l.listings;
       ready : IsReady l.plan (engine_state l.engine);

@@ -1,4 +1,4 @@
-use Rattle.std.proofs.Common.{List, refl, sym, subst}
+use Rattle.std.proofs.Common.{List, sym, subst}
 use Rattle.plan_core.specs.declared.plan.Dataset.{Dataset as Part}
 use Rattle.plan_core.specs.Sound.{IsSoundPlan}
 use Rattle.update_run.proofs.TablesLemmas.{is_sound}

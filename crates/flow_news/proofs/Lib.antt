@@ -1,0 +1,10 @@
+pub mod BlameLemmas
+pub mod CountLemmas
+pub mod GoingLemmas
+pub mod NextLemmas
+pub mod PlaceLemmas
+pub mod ReadLemmas
+pub mod ReadyLemmas
+pub mod SortedLemmas
+pub mod SourceLemmas
+pub mod StandLemmas

@@ -1,0 +1,4 @@
+pub mod ComeLemmas
+pub mod CountLemmas
+pub mod FoldLemmas
+pub mod ShowLemmas
